@@ -1,0 +1,73 @@
+-- Document 01, "Recording". What there is to record is one byte, the event: a violation's flags, or PWW for a warning, or 0 for neither.
+-- No violation has the flag PWW, so the event tells which of the two it was.
+use mathlib.Core.Bool.{Bool, true, false, not, _&&_, _||_}
+use Prim.Native.Nat.{ℕ, _%_}
+use lib.Dec.{eqb}
+use Rattle.rules.specs.Flags.{has, lacks, with, flagIf}
+use Rattle.rules.specs.Masks.{SLV, PWW, SWW, FATL, PRIMARY, READ, NORMAL}
+use Rattle.rules.specs.declared.Cycle.{Cycle}
+use Rattle.rules.specs.declared.Faults.{Faults}
+use Rattle.rules.specs.declared.Notes.{Notes}
+use Rattle.rules.specs.declared.Registers.{Registers}
+
+-- "Recording, CPU only": "its violation flags, or PWW". "A DMA violation [..] never touches VTR or the notes."
+abbrev pub eventBy : (dma violation warning : Bool) → (flags : ℕ) → ℕ
+eventBy true violation warning flags = 0
+eventBy false true warning flags = flags
+eventBy false false true flags = PWW
+eventBy false false false flags = 0
+
+unfoldable pub eventOf : (dma violation warning : Bool) → (rights : ℕ) → (long : Bool) → ℕ
+eventOf dma violation warning rights long = eventBy dma violation warning (with rights (flagIf long SLV))
+
+-- "bits 0 to 3 status, bit 4 set for read, bit 5 set for normal mode, the rest 0"
+unfoldable pub busStatus : Cycle → ℕ
+busStatus c = with (with (c .status % 16) (flagIf (c .read) READ)) (flagIf (c .normal) NORMAL)
+
+-- the registers with other faults and notes
+abbrev pub noting : Registers → Faults → Notes → Registers
+noting r f n = record { control = r .control; faults = f; fetched = r .fetched; notes = n }
+
+-- the VTR with flags added; "addresses stay"
+abbrev pub flagged : Faults → ℕ → Faults
+flagged f flags = record { vtr = with (f .vtr) flags; vsn = f .vsn; voff = f .voff; bcsr = f .bcsr }
+
+-- request and await set where `asks` holds, else as they were; own as said
+abbrev pub asked : Notes → (asks own : Bool) → Notes
+asked n asks own = record { request = n .request || asks; awaits = n .awaits || asks; own = own; hold = n .hold }
+
+-- "its violation flags, or PWW, are added; VSN (segment modulo 64), VOFF and BCSR are stored; own is set; request and await are set.
+-- An orphan [..] takes this row too, but sets neither request nor await while FATL stands."
+unfoldable pub firstEntry : Registers → Cycle → (event : ℕ) → Registers
+firstEntry r c event =
+    noting r
+    (record { vtr = with (r .faults .vtr) event; vsn = c .segment % 64; voff = c .offset; bcsr = busStatus c })
+    (asked (r .notes) (lacks (r .faults .vtr) FATL) true)
+
+-- "flags are added, nothing else; addresses stay"
+unfoldable pub added : Registers → (event : ℕ) → Registers
+added r event = noting r (flagged (r .faults) event) (r .notes)
+
+-- "FATL is set; request and await only if FATL was clear"; the same of SWW, "with request and await only while FATL is clear"
+unfoldable pub raised : Registers → (flag : ℕ) → Registers
+raised r flag = noting r (flagged (r .faults) flag) (asked (r .notes) (lacks (r .faults .vtr) FATL) (r .notes .own))
+
+-- "warning in system mode at status %9"
+abbrev pub stackWarning : Cycle → (event : ℕ) → Bool
+stackWarning c event = eqb event PWW && not (c .normal) && eqb (c .status) 9
+
+-- the rows: nothing to record; "No primary flag in VTR"; "A primary flag, and own set"; "A primary flag, own clear, warning in system
+-- mode at status %9: if SWW is clear it is set [..]. If SWW stands, nothing."; "A primary flag, own clear, violation" and "The same,
+-- any other warning: as for a violation, FATL."
+abbrev pub rowOf : (nothing first own stack standing : Bool) → Registers → Cycle → (event : ℕ) → Registers
+rowOf true first own stack standing r c event = r
+rowOf false true own stack standing r c event = firstEntry r c event
+rowOf false false true stack standing r c event = added r event
+rowOf false false false true true r c event = r
+rowOf false false false true false r c event = raised r SWW
+rowOf false false false false standing r c event = raised r FATL
+
+unfoldable pub recorded : Registers → Cycle → (event : ℕ) → Registers
+recorded r c event =
+    rowOf (eqb event 0) (lacks (r .faults .vtr) PRIMARY) (r .notes .own) (stackWarning c event) (has (r .faults .vtr) SWW)
+    r c event
