@@ -3,6 +3,9 @@ ghost use mathlib.Core.Path.{_≡_};
 ghost use Rattle.rules.specs.PowerOn.{powerOn};
 ghost use Rattle.rules.specs.Kinds.{letterOf, numberOf};
 
+pub mod flags;
+pub mod rebuild;
+
 // A segment's descriptor.
 pub struct Descriptor {
     pub base: u16,

@@ -1,0 +1,16 @@
+-- `access::memory::accessed` meets its contract: what the calls ensure, put together. Assumes nothing.
+use Rattle.rules.specs.Memory.{accessed}
+use borrow.Author.Needs.{needs}
+use Rattle.access.proofs.memory.accessed.Statement.{statement}
+use Rattle.access.proofs.memory.accessed.Tie as tie
+
+pub accessed-spec : {M : Type 1} → statement M
+unfolding accessed
+accessed-spec =
+    tie.close
+    (tie.spec
+    (λ c κs. search needs)
+    (λ c κs. search needs)
+    (λ c κs. search needs)
+    (λ c κs. search needs)
+    (λ c. cc))

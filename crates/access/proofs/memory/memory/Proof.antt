@@ -1,0 +1,59 @@
+-- `access::memory::memory` meets its contract: each answer follows from the tests on its way and what the calls ensure. Assumes nothing.
+use Rattle.rules.specs.Memory.{memory}
+use borrow.Author.Needs.{needs}
+use Rattle.access.proofs.memory.memory.Statement.{statement}
+use Rattle.access.proofs.memory.memory.Tie as tie
+
+pub memory-spec : {M : Type 1} → statement M
+unfolding memory
+memory-spec =
+    tie.close
+    (tie.spec
+    (λ c κs. search needs)
+    (λ c κs. search needs)
+    (λ c κs. search needs)
+    (λ c κs. search needs)
+    (λ c. simp (
+      c .before .if1 .taken,
+      ← c .before .before .before .before .before .is-fetch .ensures,
+      ← c .before .before .before .before .way-of .ensures,
+      ← c .before .before .before .lines-of .ensures,
+      ← c .aborted .ensures,
+    ))
+    (λ c κs. search needs)
+    (λ c. search needs)
+    (λ c κs. search needs)
+    (λ c. search needs)
+    (λ c κs. search needs)
+    (λ c. search needs)
+    (λ c κs. search needs)
+    (λ c. simp (
+      c .before .before .before .before .if1 .left,
+      ← c .before .before .before .before .before .before .before .before .is-fetch .ensures,
+      ← c .before .before .before .before .before .before .before .way-of .ensures,
+      ← c .before .before .before .before .before .before .lines-of .ensures,
+      ← c .before .before .before .begun .ensures,
+    ) (simp (
+      c .before .enum-told .given .1,
+      ← c .accessed .ensures,
+    )))
+    (λ c. simp (
+      c .before .before .before .before .if1 .left,
+      ← c .before .before .before .before .before .before .before .before .is-fetch .ensures,
+      ← c .before .before .before .before .before .before .before .way-of .ensures,
+      ← c .before .before .before .before .before .before .lines-of .ensures,
+      ← c .before .before .before .begun .ensures,
+    ) (simp (
+      c .before .enum-told2 .given .1,
+      ← c .untranslated .ensures,
+    )))
+    (λ c. simp (
+      c .before .before .before .before .if1 .left,
+      ← c .before .before .before .before .before .before .before .before .is-fetch .ensures,
+      ← c .before .before .before .before .before .before .before .way-of .ensures,
+      ← c .before .before .before .before .before .before .lines-of .ensures,
+      ← c .before .before .before .begun .ensures,
+    ) (simp (
+      c .before .enum-told3 .given .1,
+      ← c .untranslated2 .ensures,
+    ))))

@@ -1,0 +1,2 @@
+// A memory cycle as a whole: fetch, translation, checks, SUP, recording, REF and CHG.
+pub mod memory;

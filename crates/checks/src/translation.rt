@@ -1,0 +1,60 @@
+// Document 01, "Translation": how a memory cycle goes through the unit, and the address lines.
+ghost use mathlib.Core.Path.{_≡_};
+ghost use Rattle.rules.specs.Translation.{wayOf, blockOf, linesOf};
+use rules::Cycle;
+use rules::Lines;
+use rules::Unit;
+use rules::Way;
+
+// How a memory cycle goes through the unit.
+pub fn way_of(mr: u8, c: Cycle) -> Way
+    ensures { λ w. ⌜ w ≡ wayOf mr c ⌝ }
+{
+    let disabled = mr & Unit::MSEN == 0;
+    if disabled {
+        return Way::Silent;
+    }
+    let passing = mr & Unit::TRNS == 0;
+    if passing {
+        return Way::Passed;
+    }
+    let half = (mr & Unit::URS != 0) == (c.segment & Unit::UPPER != 0);
+    if half {
+        let either = mr & Unit::MST == 0;
+        if either {
+            return Way::Translated;
+        }
+        let mode = (mr & Unit::NMS != 0) == c.normal;
+        if mode {
+            return Way::Translated;
+        }
+    }
+    Way::Silent
+}
+
+// The physical block number: base + offset byte, modulo 65,536.
+pub fn block_of(base: u16, offset: u8) -> u16
+    ensures { λ b. ⌜ b ≡ blockOf base offset ⌝ }
+{
+    std::num::wrapping_add_u16(base, offset as u16)
+}
+
+// The address lines.
+pub fn lines_of(w: Way, base: u16, c: Cycle) -> Lines
+    ensures { λ l. ⌜ l ≡ linesOf w base c ⌝ }
+{
+    match w {
+        Way::Silent => Lines {
+            driven: false,
+            block: 0,
+        },
+        Way::Passed => Lines {
+            driven: true,
+            block: c.segment as u16 * 256 + c.offset as u16,
+        },
+        Way::Translated => Lines {
+            driven: true,
+            block: block_of(base, c.offset),
+        },
+    }
+}

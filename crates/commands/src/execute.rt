@@ -1,0 +1,198 @@
+// Document 01, "Commands": what is decided in a selected command, refusals 3 and 4 with it.
+ghost use mathlib.Core.Path.{_≡_};
+ghost use mathlib.Core.Bool.{cond};
+ghost use Rattle.rules.specs.Refusals.{plain, refused};
+ghost use Rattle.rules.specs.Commands.{given, registerOf, restarted, programmed, entry, acted, executed, commanded};
+use crate::decode;
+use descriptors::entry;
+use rules::Action;
+use rules::Answer;
+use rules::Change;
+use rules::Command;
+use rules::Control;
+use rules::Cycle;
+use rules::Decision;
+use rules::Descriptor;
+use rules::Kind;
+use rules::Lines;
+use rules::Part;
+use rules::Register;
+use rules::Registers;
+use rules::Unit;
+use rules::flags;
+
+// Nothing driven, SUP off, and the trap line as the request stands.
+pub fn plain(kind: Kind, r: Registers, h: Change) -> Decision
+    ensures { λ p. ⌜ p ≡ plain kind r h ⌝ }
+{
+    Decision {
+        answer: Answer {
+            kind,
+            lines: Lines {
+                driven: false,
+                block: 0,
+            },
+            sup: false,
+            trap: r.notes.request,
+            drives: false,
+            byte: 0,
+        },
+        registers: r,
+        change: h,
+    }
+}
+
+// A refusal: all as it was.
+pub fn refused(n: u8, r: Registers) -> Decision
+    ensures { λ p. ⌜ p ≡ refused n r ⌝ }
+{
+    plain(Kind::Refused(n), r, Change::Keep)
+}
+
+// A command: a read drives the byte, a write none.
+pub fn given(read: bool, b: u8, r: Registers, h: Change) -> Decision
+    ensures { λ p. ⌜ p ≡ given read b r h ⌝ }
+{
+    Decision {
+        answer: Answer {
+            kind: Kind::Command,
+            lines: Lines {
+                driven: false,
+                block: 0,
+            },
+            sup: false,
+            trap: r.notes.request,
+            drives: read,
+            byte: flags::flag_if(read, b),
+        },
+        registers: r,
+        change: h,
+    }
+}
+
+// The byte of a register that commands can only read.
+pub fn register_of(r: Registers, g: Register) -> u8
+    ensures { λ b. ⌜ b ≡ registerOf r g ⌝ }
+{
+    match g {
+        Register::Vtr => r.faults.vtr,
+        Register::Vsn => r.faults.vsn,
+        Register::Voff => r.faults.voff,
+        Register::Bcsr => r.faults.bcsr,
+        Register::Isn => r.fetched.isn,
+        Register::Ioff => r.fetched.ioff,
+    }
+}
+
+// VTR, DSCR and all notes cleared, with another MR.
+pub fn restarted(r: Registers, mr: u8) -> Registers
+    ensures { λ q. ⌜ q ≡ restarted r mr ⌝ }
+{
+    let controlled = r.with_control(mr, r.control.sar, 0);
+    let cleared = controlled.with_vtr(0);
+    cleared.with_notes(false, false, false, false)
+}
+
+// A read leaves MR, SAR and DSCR.
+fn kept(read: bool, old: Control, new: Control) -> Control
+    ensures { λ k. ⌜ k ≡ cond read old new ⌝ }
+{
+    if read {
+        return old;
+    }
+    new
+}
+
+// MR, SAR and DSCR.
+fn programmed(r: Registers, c: Cycle, old: u8, k: Control) -> Decision
+    ensures { λ p. ⌜ p ≡ programmed r c old k ⌝ }
+{
+    let control = r.control;
+    let next = kept(c.read, control, k);
+    given(
+        c.read,
+        old,
+        r.with_control(next.mr, next.sar, next.dscr),
+        Change::Keep,
+    )
+}
+
+// One byte of the descriptor at SAR.
+fn entry(r: Registers, d: Descriptor, p: Part, c: Cycle) -> Decision
+    ensures { λ q. ⌜ q ≡ entry r d p c ⌝ }
+{
+    let control = r.control;
+    let i = entry::index_of(p, control.dscr);
+    let next = entry::moved(control, p, c);
+    given(
+        c.read,
+        entry::byte_of(d, i),
+        r.with_control(next.mr, next.sar, next.dscr),
+        entry::written_by(c.read, d, i, c.byte),
+    )
+}
+
+// A set or clear command.
+fn acted(r: Registers, a: Action) -> Decision
+    ensures { λ p. ⌜ p ≡ acted r a ⌝ }
+{
+    let vtr = r.faults.vtr;
+    match a {
+        Action::SoftwareReset => plain(Kind::Command, restarted(r, 0), Change::Keep),
+        Action::ClearVtr => plain(Kind::Command, r.with_vtr(0), Change::Keep),
+        Action::ClearSww => plain(Kind::Command, r.with_vtr(vtr & !Unit::SWW), Change::Keep),
+        Action::ClearFatl => plain(Kind::Command, r.with_vtr(vtr & !Unit::FATL), Change::Keep),
+        Action::SetCpui => plain(Kind::Command, r, Change::Raise(Unit::CPUI)),
+        Action::SetDmai => plain(Kind::Command, r, Change::Raise(Unit::DMAI)),
+    }
+}
+
+// What a code stands for, done.
+fn executed(m: Command, read: bool, r: Registers, d: Descriptor, c: Cycle) -> Decision
+    ensures { λ p. ⌜ p ≡ executed m read r d c ⌝ }
+{
+    let k = r.control;
+    match m {
+        Command::Mr => {
+            let mode = Control {
+                mr: c.byte,
+                sar: k.sar,
+                dscr: k.dscr,
+            };
+            programmed(r, c, k.mr, mode)
+        }
+        Command::Sar => {
+            let segment = Control {
+                mr: k.mr,
+                sar: c.byte % Unit::SEGMENTS,
+                dscr: k.dscr,
+            };
+            programmed(r, c, k.sar, segment)
+        }
+        Command::Dscr => {
+            let counter = Control {
+                mr: k.mr,
+                sar: k.sar,
+                dscr: c.byte % Unit::BYTES,
+            };
+            programmed(r, c, k.dscr, counter)
+        }
+        Command::Show(g) => {
+            if read {
+                given(true, register_of(r, g), r, Change::Keep)
+            } else {
+                refused(4, r)
+            }
+        }
+        Command::Entry(p) => entry(r, d, p, c),
+        Command::Act(a) => { if read { refused(4, r) } else { acted(r, a) } }
+        Command::Unlisted => refused(3, r),
+    }
+}
+
+// A selected command.
+pub fn commanded(r: Registers, d: Descriptor, c: Cycle) -> Decision
+    ensures { λ p. ⌜ p ≡ commanded r d c ⌝ }
+{
+    executed(decode::command(c.offset), c.read, r, d, c)
+}

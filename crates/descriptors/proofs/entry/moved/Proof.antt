@@ -1,0 +1,9 @@
+-- `descriptors::entry::moved` meets its contract: what the calls ensure, put together. Assumes nothing.
+use Rattle.rules.specs.Entry.{moved}
+use borrow.Author.Needs.{needs}
+use Rattle.descriptors.proofs.entry.moved.Statement.{statement}
+use Rattle.descriptors.proofs.entry.moved.Tie as tie
+
+pub moved-spec : {M : Type 1} → statement M
+unfolding moved
+moved-spec = tie.close (tie.spec (λ c κs. search needs) (λ c κs. search needs) (λ c. cc))

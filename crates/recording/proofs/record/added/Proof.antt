@@ -1,0 +1,10 @@
+-- `recording::record::added` meets its contract: what the calls ensure, put together. Assumes nothing.
+use Rattle.rules.specs.Commands.{cleared}
+use Rattle.rules.specs.Recording.{added}
+use borrow.Author.Needs.{needs}
+use Rattle.recording.proofs.record.added.Statement.{statement}
+use Rattle.recording.proofs.record.added.Tie as tie
+
+pub added-spec : {M : Type 1} → statement M
+unfolding added cleared
+added-spec = tie.close (tie.spec (λ c κs. search needs) (λ c. c .with-vtr .ensures))

@@ -1,0 +1,9 @@
+-- `recording::record::bus_status` meets its contract: what the calls ensure, put together. Assumes nothing.
+use Rattle.rules.specs.Recording.{busStatus}
+use borrow.Author.Needs.{needs}
+use Rattle.recording.proofs.record.bus_status.Statement.{statement}
+use Rattle.recording.proofs.record.bus_status.Tie as tie
+
+pub bus-status-spec : {M : Type 1} → statement M
+unfolding busStatus
+bus-status-spec = tie.close (tie.spec (λ c κs. search needs) (λ c κs. search needs) (λ c. cc))

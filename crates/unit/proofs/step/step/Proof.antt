@@ -1,0 +1,18 @@
+-- `unit::step::step` meets its contract: what the calls ensure, put together. Assumes nothing.
+use Rattle.rules.specs.Step.{after, decision}
+use borrow.Author.Needs.{needs}
+use Rattle.unit.proofs.step.step.Statement.{statement}
+use Rattle.unit.proofs.step.step.Tie as tie
+
+pub step-spec : {M : Type 1} → statement M
+unfolding after decision
+step-spec =
+    tie.close
+    (tie.spec
+    (λ c κs. search needs)
+    (λ c. search needs)
+    (λ c. search needs)
+    (λ c. search needs)
+    (λ c κs. search needs)
+    (λ c κs. search needs)
+    (λ c. cc))

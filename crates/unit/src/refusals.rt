@@ -1,0 +1,24 @@
+// Document 01, "Numbers that say no": the conditions of 2 and 1.
+ghost use mathlib.Core.Path.{_≡_};
+ghost use Rattle.rules.specs.Refusals.{damaged, outOfRange};
+use rules::Cycle;
+use rules::Registers;
+use rules::Unit;
+
+// Refusal 2: a register past its numbers.
+pub fn damaged(r: Registers) -> bool
+    ensures { λ b. ⌜ b ≡ damaged r ⌝ }
+{
+    (Unit::SIX_BITS < r.control.sar)
+        | (Unit::SIX_BITS < r.faults.vsn)
+        | (Unit::SIX_BITS < r.fetched.isn)
+        | (Unit::SIX_BITS < r.faults.bcsr)
+        | (Unit::TWO_BITS < r.control.dscr)
+}
+
+// Refusal 1: a cycle past its numbers.
+pub fn out_of_range(c: Cycle) -> bool
+    ensures { λ b. ⌜ b ≡ outOfRange c ⌝ }
+{
+    (Unit::LAST_STATUS < c.status) | (Unit::LAST_SEGMENT < c.segment)
+}

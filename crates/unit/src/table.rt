@@ -1,0 +1,47 @@
+// What a cycle does to the table.
+ghost use mathlib.Core.Path.{_≡_};
+ghost use mathlib.Core.List.{map};
+ghost use Prim.Native.Nat.{_%_};
+ghost use Rattle.rules.specs.Step.{marked, changed};
+use rules::Change;
+use rules::Descriptor;
+use rules::Unit;
+
+// Flags set in a descriptor.
+fn mark(d: Descriptor, mask: u8) -> Descriptor
+    ensures { λ r. ⌜ r ≡ marked mask d ⌝ }
+{
+    Descriptor {
+        base: d.base,
+        limit: d.limit,
+        attributes: d.attributes | mask,
+    }
+}
+
+// Flags set in every descriptor.
+pub fn mark_all(t: [Descriptor; 64], mask: u8) -> [Descriptor; 64]
+    ensures { λ r. ⌜ r ≡ map (marked mask) t ⌝ }
+{
+    let mut out = t;
+    for i in 0..64usize {
+        let d = out[i];
+        out[i] = mark(d, mask);
+    }
+    out
+}
+
+// The table after a change at a place, modulo 64.
+pub fn changed(h: Change, place: u8, t: [Descriptor; 64]) -> [Descriptor; 64]
+    ensures { λ r. ⌜ r ≡ changed h (place % 64) t ⌝ }
+{
+    let i = (place % Unit::SEGMENTS) as usize;
+    match h {
+        Change::Keep => t,
+        Change::Put(d) => {
+            let mut out = t;
+            out[i] = d;
+            out
+        }
+        Change::Raise(mask) => mark_all(t, mask),
+    }
+}
