@@ -19,5 +19,7 @@ pub mod Commands
 -- one cycle as a whole: what is decided, and the unit after it; and cycles one after another
 pub mod Step
 pub mod Runs
+-- "Proved rows"
+pub mod Rows
 -- the kinds of "The trace"
 pub mod Kinds

@@ -1,8 +1,8 @@
--- `access::memory::touched_by` meets its contract: each answer follows from the tests on its way and what the calls ensure. Assumes nothing.
+-- `marks::touch::touched_by` meets its contract: each answer follows from the tests on its way and what the calls ensure. Assumes nothing.
 use Rattle.rules.specs.Memory.{touchedBy}
 use borrow.Author.Needs.{needs}
-use Rattle.access.proofs.memory.touched_by.Statement.{statement}
-use Rattle.access.proofs.memory.touched_by.Tie as tie
+use Rattle.marks.proofs.touch.touched_by.Statement.{statement}
+use Rattle.marks.proofs.touch.touched_by.Tie as tie
 
 pub touched-by-spec : {M : Type 1} → statement M
 unfolding touchedBy
