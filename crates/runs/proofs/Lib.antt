@@ -1,0 +1,8 @@
+-- laws that the proofs share
+pub mod Tests
+pub mod Bits
+pub mod Tables
+pub mod Codes
+-- what is claimed in specs/, one file for each
+pub mod Runs
+pub mod Undamaged
