@@ -1,15 +1,17 @@
 -- What masks ask for, and laws of flags set and cleared.
 -- Assumes nothing.
 use mathlib.Core.Path.{_≡_, refl, sym, _∙_, ap}
-use mathlib.Core.Bool.{not, _||_}
+use mathlib.Core.Bool.{Bool, true, false, not, _&&_, _||_}
 use Prim.Native.Nat.{ℕ, zero, suc, _+_, _-_, _*_, _/_, _%_, _^_, _<_}
 use native.Mathlib.Nat.{zero-mul, one-mul}
 use native.Mathlib.Omega.{arith}
-use lib.Bits.{bitAnd, bitOr, and-high, or-shr, or-mod}
-use lib.Dec.{eqb}
+use lib.Bits.{and-shr, and-mod, bitAnd, bitOr, and-high, or-shr, or-mod, or-lt, and-mask, or-zero-l, or-add-and}
+use lib.Bits.{and-le-r}
+use lib.Dec.{eqb, lit<}
 use lib.Pow.{pow-pos, pow-add}
 use borrow.Author.Tests.{ne-eqb}
-use Rattle.rules.specs.Flags.{has}
+use Rattle.rules.specs.Flags.{has, lacks, with, flagIf}
+use Rattle.rules.specs.Masks.{PRIMARY}
 
 -- a mask of one bit asks for that bit
 one-bit : (x k : ℕ) → bitAnd x (2 ^ k) ≡ x / 2 ^ k % 2 * 2 ^ k
@@ -37,3 +39,46 @@ pub has-or : (k a b : ℕ) → has (bitOr a b) (2 ^ k) ≡ (has a (2 ^ k) || has
 has-or k a b =
     rw (has-bit (bitOr a b) k, has-bit a k, has-bit b k, or-shr a b k, or-mod (a / 2 ^ k) (b / 2 ^ k) 1)
     (or-bit (a / 2 ^ k % 2) (b / 2 ^ k % 2) (omega arith) (omega arith))
+
+and-bit : (x y : ℕ) → x < 2 → y < 2 → eqb (bitAnd x y) 1 ≡ (eqb x 1 && eqb y 1)
+and-bit zero zero h k = refl
+and-bit zero (suc zero) h k = refl
+and-bit zero (suc (suc y)) h k = absurd (omega arith)
+and-bit (suc zero) zero h k = refl
+and-bit (suc zero) (suc zero) h k = refl
+and-bit (suc zero) (suc (suc y)) h k = absurd (omega arith)
+and-bit (suc (suc x)) y h k = absurd (omega arith)
+
+pub has-and : (k a b : ℕ) → has (bitAnd a b) (2 ^ k) ≡ (has a (2 ^ k) && has b (2 ^ k))
+has-and k a b =
+    rw (has-bit (bitAnd a b) k, has-bit a k, has-bit b k, and-shr a b k, and-mod (a / 2 ^ k) (b / 2 ^ k) 1)
+    (and-bit (a / 2 ^ k % 2) (b / 2 ^ k % 2) (omega arith) (omega arith))
+
+-- The primary flags, which are the low six bits
+
+primary : (v : ℕ) → lacks v PRIMARY ≡ eqb (v % 64) 0
+primary v = ap (λ (n : ℕ). eqb n 0) (and-mask v 6)
+
+or-none : (x y : ℕ) → eqb (bitOr x y) 0 ≡ (eqb x 0 && eqb y 0)
+or-none zero y = ap (λ (n : ℕ). eqb n 0) (or-zero-l y)
+or-none (suc x) y =
+    rw (ne-eqb (suc x) 0 (λ e. omega arith)) (ne-eqb (bitOr (suc x) y) 0 λ e. omega (arith, or-add-and (suc x) y, and-le-r (suc x) y))
+
+pub lacks-or : (a b : ℕ) → lacks (bitOr a b) PRIMARY ≡ (lacks a PRIMARY && lacks b PRIMARY)
+lacks-or a b = rw (primary (bitOr a b), primary a, primary b, or-mod a b 6) (or-none (a % 64) (b % 64))
+
+pub lacks-and : (v m : ℕ) → m % 64 ≡ 63 → lacks (bitAnd v m) PRIMARY ≡ lacks v PRIMARY
+lacks-and v m h =
+    let low : v % 64 % 64 ≡ v % 64 = omega arith in
+    rw (primary (bitAnd v m), primary v, and-mod v m 6, h, and-mask (v % 64) 6, low)
+
+pub lacks-small : (e : ℕ) → e < 64 → lacks e PRIMARY ≡ eqb e 0
+lacks-small e h = let low : e % 64 ≡ e = omega arith in rw (primary e, low)
+
+-- six bits
+pub small-if : (t : Bool) (m : ℕ) → m < 64 → flagIf t m < 64
+small-if true m h = h
+small-if false m h = lit< tt
+
+pub or-if : {x : ℕ} (t : Bool) (m : ℕ) → m < 64 → x < 64 → with x (flagIf t m) < 64
+or-if {x} t m h k = or-lt 6 x (flagIf t m) k (small-if t m h)

@@ -4,7 +4,10 @@ pub mod Bits
 pub mod Tables
 pub mod Codes
 pub mod Purposes
--- what is claimed in specs/, one file for each
+pub mod Ways
 pub mod Runs
+-- what is claimed in specs/, one file for each
 pub mod Undamaged
 pub mod Refusal
+pub mod Trap
+pub mod Notes

@@ -11,11 +11,12 @@ use Rattle.rules.specs.Bus.{cpu, write, fetch}
 use Rattle.rules.specs.PowerOn.{none as blank}
 use Rattle.rules.specs.Refusals.{damaged, outOfRange, plain, refused}
 use Rattle.rules.specs.Status.{resetBy, acknowledged, ignored, purposeOf, byPurpose, byStatus}
-use Rattle.rules.specs.Memory.{seen, begun, checked, accessed, aborted, untranslated, through, memoryBy, aborts, memory}
+use Rattle.rules.specs.Memory.{seen, begun, checked, accessed, aborted, untranslated, through, memoryBy, aborts}
+use Rattle.rules.specs.Memory.{memory}
 use Rattle.rules.specs.Translation.{wayOf}
 use Rattle.rules.specs.Codes.{commandOf}
 use Rattle.rules.specs.Commands.{given, programmed, entry, acted, executed, commanded}
-use Rattle.rules.specs.Step.{decidedBy, decided, place, changed, decision, after, stepped}
+use Rattle.rules.specs.Step.{decidedBy, decided, place, changed, decision, after}
 use Rattle.rules.specs.declared.Action.{Action}
 use Rattle.rules.specs.declared.Action.the-variants.{SoftwareReset, ClearVtr, ClearSww, ClearFatl, SetCpui, SetDmai}
 use Rattle.rules.specs.declared.Command.{Command}
@@ -29,8 +30,8 @@ use Rattle.rules.specs.declared.Purpose.{Purpose}
 use Rattle.rules.specs.declared.Registers.{Registers}
 use Rattle.rules.specs.declared.Unit.{Unit}
 use Rattle.rules.specs.declared.Way.{Way}
-use Rattle.runs.specs.Cycles.{selectedCommand, readOnly, setOrClear, listed}
-use Rattle.runs.specs.Refusal.{numberIn, unlisted, wrongWay, earliest, NumbersExactly, AsItStood, RefusalLeaves}
+use Rattle.runs.specs.Cycles.{readOnly, setOrClear, listed}
+use Rattle.runs.specs.Refusal.{numberIn, unlisted, wrongWay, earliest, NumbersExactly, RefusalLeaves}
 use Rattle.runs.proofs.Codes.{isShow, isAct, isListed, show-codes, act-codes, listed-codes}
 use Rattle.runs.proofs.Purposes.{isCommand, command-status}
 use Rattle.rules.specs.declared.Purpose.the-variants as purpose

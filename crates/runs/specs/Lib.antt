@@ -4,4 +4,5 @@ pub mod Cycles
 pub mod Undamaged
 pub mod Refusal
 pub mod Trap
+pub mod Notes
 pub mod Tighter
