@@ -11,3 +11,7 @@ pub mod Undamaged
 pub mod Refusal
 pub mod Trap
 pub mod Notes
+pub mod Wider
+pub mod Pairs
+pub mod Tighter
+pub mod Needed
