@@ -15,8 +15,8 @@ use Rattle.rules.specs.Refusals.{plain, refused}
 use Rattle.rules.specs.Status.{resetBy, quieted, acknowledged, ignored, purposeOf, byPurpose, byStatus}
 use Rattle.rules.specs.Checks.{rightsOf, outOfLength, warns}
 use Rattle.rules.specs.Recording.{firstEntry, added, raised, eventOf, recorded}
-use Rattle.rules.specs.Memory.{seen, begun, touched, touchedBy, noted, suppressed, checked, accessed, resumed, aborted}
-use Rattle.rules.specs.Memory.{untranslated, through, memoryBy, aborts, memory}
+use Rattle.rules.specs.Memory.{seen, begun, touched, touchedBy, noted, suppressed, checked, accessed, resumed}
+use Rattle.rules.specs.Memory.{aborted, untranslated, through, memoryBy, aborts, memory}
 use Rattle.rules.specs.Translation.{wayOf, linesOf}
 use Rattle.rules.specs.Codes.{commandOf}
 use Rattle.rules.specs.Entry.{moved, writtenBy}
@@ -44,7 +44,8 @@ use Rattle.runs.proofs.Purposes.{isCommand, command-status}
 use Rattle.runs.proofs.Tables.{set-at, map-at}
 use Rattle.runs.proofs.Tests.{or-⇒, and-⇒, then-⇒}
 use Rattle.runs.proofs.Ways.{by-row}
-use Rattle.runs.proofs.Wider.{Marked, marked-refl, touched-marked, marked-wider, raised-wider, violation, violation-⇒}
+use Rattle.runs.proofs.Wider.{Marked, marked-refl, touched-marked, marked-wider, raised-wider, violation}
+use Rattle.runs.proofs.Wider.{violation-⇒}
 use Rattle.rules.specs.declared.Change.the-variants as change
 use Rattle.rules.specs.declared.Purpose.the-variants as purpose
 use Rattle.rules.specs.declared.Way.the-variants as way

@@ -1,9 +1,9 @@
 -- Demand 3. What stays equal in the two units is MR, SAR and DSCR; hold and the descriptors stay ordered; all else may drift apart.
 -- Assumes nothing.
 use mathlib.Core.Path.{_≡_, refl, sym, _∙_, ap}
-use mathlib.Core.Bool.{Bool, true, false, cond, _||_}
+use mathlib.Core.Bool.{Bool, true, false, cond}
 use mathlib.Core.List.{List, [], _∷_}
-use Prim.Native.Nat.{ℕ, _%_}
+use Prim.Native.Nat.{_%_}
 use native.Mathlib.Omega.{arith}
 use lib.Dec.{eqb, ltb}
 use lib.ListN.{getD, List·getD-eq-default}
@@ -11,13 +11,13 @@ use borrow.Author.Tests.{ltb-true, ltb-false}
 use Rattle.rules.specs.PowerOn.{none}
 use Rattle.rules.specs.Refusals.{outOfRange}
 use Rattle.rules.specs.Runs.{answers}
-use Rattle.rules.specs.Step.{decided, placeOf, place, decision, after, stepped}
+use Rattle.rules.specs.Step.{decided, placeOf, place, decision, after}
 use Rattle.rules.specs.declared.Control.{Control}
 use Rattle.rules.specs.declared.Cycle.{Cycle}
 use Rattle.rules.specs.declared.Unit.{Unit}
 use Rattle.runs.specs.Cycles.{descriptorWrite}
 use Rattle.runs.specs.Sequences.{_⇒_, Every, Both}
-use Rattle.runs.specs.Tighter.{Wider, Loosened, Covers, abortedFetch, before, NoDescriptorWrite, TighterCovers, Demand3}
+use Rattle.runs.specs.Tighter.{Wider, Covers, abortedFetch, before, NoDescriptorWrite, TighterCovers, Demand3}
 use Rattle.runs.specs.Tighter.{StopInFirst}
 use Rattle.runs.specs.Undamaged.{Undamaged}
 use Rattle.runs.proofs.Pairs.{Paired, decided-paired, Wide, decided-wide}

@@ -1,12 +1,11 @@
 -- Two descriptors, the second wider: what the cycles do to descriptors keeps them so, and a violation of the wider is one of the tighter.
 -- Assumes nothing.
 use mathlib.Core.Path.{_≡_, refl, sym, _∙_, ap}
-use mathlib.Core.Bool.{Bool, true, false, not, _&&_, _||_, or-false}
-use mathlib.Core.List.{List, [], _∷_}
+use mathlib.Core.Bool.{Bool, true, false, not, _&&_, or-false}
+use mathlib.Core.List.{[], _∷_}
 use Prim.Native.Nat.{ℕ, zero, suc, _^_, _≤_, _<_}
 use native.Mathlib.Nat.{le-refl}
 use native.Mathlib.Omega.{arith}
-use lib.Bits.{bitOr}
 use lib.Dec.{eqb}
 use borrow.Author.Tests.{not-true}
 use Rattle.rules.specs.Bus.{cpu, write, program}
@@ -20,7 +19,7 @@ use Rattle.rules.specs.declared.Descriptor.{Descriptor}
 use Rattle.runs.specs.Sequences.{_⇒_, Every}
 use Rattle.runs.specs.Tighter.{Wider}
 use Rattle.runs.proofs.Bits.{has-or, Under, or-under, if-under}
-use Rattle.runs.proofs.Tests.{or-⇒, and-⇒, ltb-⇒, each, at}
+use Rattle.runs.proofs.Tests.{or-⇒, and-⇒, ltb-⇒, at}
 
 -- The five protection flags are the masks of bits 0 to 4
 
