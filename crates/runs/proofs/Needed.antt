@@ -34,7 +34,7 @@ abbrev unit : (x y z : Descriptor) → Unit
 unit x y z = record {
   table = x ∷ y ∷ z ∷ replicate 61 none;
   registers = record {
-    control = record { mr = 192; sar = 0; dscr = 0 };
+    control = record { mr = 0xC0; sar = 0; dscr = 0 };
     faults = powerOn .registers .faults;
     fetched = powerOn .registers .fetched;
     notes = quiet;

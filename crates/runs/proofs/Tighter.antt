@@ -3,10 +3,10 @@
 use mathlib.Core.Path.{_≡_, refl, sym, _∙_, ap}
 use mathlib.Core.Bool.{Bool, true, false, cond}
 use mathlib.Core.List.{List, [], _∷_}
-use Prim.Native.Nat.{_%_}
+use Prim.Native.Nat.{ℕ, _%_, _≤_}
 use native.Mathlib.Omega.{arith}
 use lib.Dec.{eqb, ltb}
-use lib.ListN.{getD, List·getD-eq-default}
+use lib.ListN.{length, getD, List·getD-eq-default}
 use borrow.Author.Tests.{ltb-true, ltb-false}
 use Rattle.rules.specs.PowerOn.{none}
 use Rattle.rules.specs.Refusals.{outOfRange}
@@ -14,6 +14,7 @@ use Rattle.rules.specs.Runs.{answers}
 use Rattle.rules.specs.Step.{decided, placeOf, place, decision, after}
 use Rattle.rules.specs.declared.Control.{Control}
 use Rattle.rules.specs.declared.Cycle.{Cycle}
+use Rattle.rules.specs.declared.Descriptor.{Descriptor}
 use Rattle.rules.specs.declared.Unit.{Unit}
 use Rattle.runs.specs.Cycles.{descriptorWrite}
 use Rattle.runs.specs.Sequences.{_⇒_, Every, Both}
@@ -64,6 +65,10 @@ module _ (a b : Unit) (c : Cycle) (h : Loose a b) where
         table = step-wide f;
       }
 
+-- past the table there is nothing to compare
+past : (t : List Descriptor) (i : ℕ) → length t ≡ 64 → 64 ≤ i → getD t i none ≡ none
+past t i e h = List·getD-eq-default t none {n = i} (omega arith)
+
 -- Runs, with any stop that comes before an aborted fetch in the first unit
 
 module _ (stop : Unit → Unit → Cycle → Bool) (stops : (a b : Unit) (c : Cycle) → stop a b c ≡ false → abortedFetch a c ≡ false) where
@@ -96,9 +101,7 @@ module _ (stop : Unit → Unit → Cycle → Bool) (stops : (a b : Unit) (c : Cy
         where
           go : (t : Bool) → ltb i 64 ≡ t → Wider (getD (a .table) i none) (getD (b .table) i none)
           go true q = l .table i (ltb-true i 64 q)
-          go false q =
-              rw (List·getD-eq-default (a .table) none {n = i} (omega (arith, sa .size, ltb-false i 64 q)), List·getD-eq-default (b .table) none {n = i} (omega (arith, sb .size, ltb-false i 64 q)))
-              (wider-refl none)
+          go false q = rw (past (a .table) i (sa .size) (ltb-false i 64 q), past (b .table) i (sb .size) (ltb-false i 64 q)) (wider-refl none)
 
 pub demand-3 : Demand3
 demand-3 = tighter-covers _ λ a b c. or-l (abortedFetch a c) (abortedFetch b c)
