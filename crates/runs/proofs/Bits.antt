@@ -26,34 +26,25 @@ bit-times (suc (suc b)) k h = absurd (omega arith)
 has-bit : (x k : ℕ) → has x (2 ^ k) ≡ eqb (x / 2 ^ k % 2) 1
 has-bit x k = ap (λ (b : ℕ). not (eqb b 0)) (one-bit x k) ∙ bit-times (x / 2 ^ k % 2) k (omega arith)
 
--- a law of bits becomes one of flags
-or-bit : (x y : ℕ) → x < 2 → y < 2 → eqb (bitOr x y) 1 ≡ (eqb x 1 || eqb y 1)
-or-bit zero zero h k = refl
-or-bit zero (suc zero) h k = refl
-or-bit zero (suc (suc y)) h k = absurd (omega arith)
-or-bit (suc zero) zero h k = refl
-or-bit (suc zero) (suc zero) h k = refl
-or-bit (suc zero) (suc (suc y)) h k = absurd (omega arith)
-or-bit (suc (suc x)) y h k = absurd (omega arith)
+-- so a law of two bits is one of flags
+two-bits : (P : ℕ → ℕ → Type 0) → P 0 0 → P 0 1 → P 1 0 → P 1 1 → (x y : ℕ) → x < 2 → y < 2 → P x y
+two-bits P a b c d zero zero h k = a
+two-bits P a b c d zero (suc zero) h k = b
+two-bits P a b c d (suc zero) zero h k = c
+two-bits P a b c d (suc zero) (suc zero) h k = d
+two-bits P a b c d zero (suc (suc y)) h k = absurd (omega arith)
+two-bits P a b c d (suc zero) (suc (suc y)) h k = absurd (omega arith)
+two-bits P a b c d (suc (suc x)) y h k = absurd (omega arith)
 
 pub has-or : (k a b : ℕ) → has (bitOr a b) (2 ^ k) ≡ (has a (2 ^ k) || has b (2 ^ k))
 has-or k a b =
     rw (has-bit (bitOr a b) k, has-bit a k, has-bit b k, or-shr a b k, or-mod (a / 2 ^ k) (b / 2 ^ k) 1)
-    (or-bit (a / 2 ^ k % 2) (b / 2 ^ k % 2) (omega arith) (omega arith))
-
-and-bit : (x y : ℕ) → x < 2 → y < 2 → eqb (bitAnd x y) 1 ≡ (eqb x 1 && eqb y 1)
-and-bit zero zero h k = refl
-and-bit zero (suc zero) h k = refl
-and-bit zero (suc (suc y)) h k = absurd (omega arith)
-and-bit (suc zero) zero h k = refl
-and-bit (suc zero) (suc zero) h k = refl
-and-bit (suc zero) (suc (suc y)) h k = absurd (omega arith)
-and-bit (suc (suc x)) y h k = absurd (omega arith)
+    (two-bits (λ x y. eqb (bitOr x y) 1 ≡ (eqb x 1 || eqb y 1)) refl refl refl refl (a / 2 ^ k % 2) (b / 2 ^ k % 2) (omega arith) (omega arith))
 
 pub has-and : (k a b : ℕ) → has (bitAnd a b) (2 ^ k) ≡ (has a (2 ^ k) && has b (2 ^ k))
 has-and k a b =
     rw (has-bit (bitAnd a b) k, has-bit a k, has-bit b k, and-shr a b k, and-mod (a / 2 ^ k) (b / 2 ^ k) 1)
-    (and-bit (a / 2 ^ k % 2) (b / 2 ^ k % 2) (omega arith) (omega arith))
+    (two-bits (λ x y. eqb (bitAnd x y) 1 ≡ (eqb x 1 && eqb y 1)) refl refl refl refl (a / 2 ^ k % 2) (b / 2 ^ k % 2) (omega arith) (omega arith))
 
 -- The primary flags, which are the low six bits
 

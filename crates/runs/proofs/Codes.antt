@@ -64,19 +64,19 @@ isSoftwareReset (Act SetCpui) = false
 isSoftwareReset (Act SetDmai) = false
 isSoftwareReset Unlisted = false
 
--- no row of the table has a code above 32
+-- no row of the table has a code above %20
 low : List (ℕ × Command) → Bool
 low [] = true
-low (row ∷ rows) = leb (row .0) 32 && low rows
+low (row ∷ rows) = leb (row .0) 0x20 && low rows
 
-past : (n : ℕ) → 32 < n → (rows : List (ℕ × Command)) → low rows ≡ true → lookUp n rows ≡ Unlisted
+past : (n : ℕ) → 0x20 < n → (rows : List (ℕ × Command)) → low rows ≡ true → lookUp n rows ≡ Unlisted
 unfolding low
 past n h [] e = refl
 past n h (row ∷ rows) e =
-    let small : row .0 ≤ 32 = leb-true _ _ (and-l (leb (row .0) 32) _ e) in
-    rw (ne-eqb n (row .0) (λ q. omega arith)) (past n h rows (and-r (leb (row .0) 32) _ e))
+    let small : row .0 ≤ 0x20 = leb-true _ _ (and-l (leb (row .0) 0x20) _ e) in
+    rw (ne-eqb n (row .0) (λ q. omega arith)) (past n h rows (and-r (leb (row .0) 0x20) _ e))
 
-unlisted-past : (n : ℕ) → 32 < n → commandOf n ≡ Unlisted
+unlisted-past : (n : ℕ) → 0x20 < n → commandOf n ≡ Unlisted
 unfolding commandOf low
 unlisted-past n h = past n h codes refl
 
@@ -86,35 +86,35 @@ same true false e = sym e
 same false true e = e
 same false false e = refl
 
--- a test of the command is a test of its number, where the two agree up to 32 and the second fails past it
-by-number : (p : Command → Bool) (q : ℕ → Bool) → each 33 (λ n. Bool·beq (p (commandOf n)) (q n)) ≡ true
-    → p Unlisted ≡ false → ((n : ℕ) → 32 < n → q n ≡ false) → (n : ℕ) → p (commandOf n) ≡ q n
-by-number p q e none far n = go (ltb n 33) refl
+-- a test of the command is a test of its number, where the two agree up to %20 and the second fails past it
+by-number : (p : Command → Bool) (q : ℕ → Bool) → each 0x21 (λ n. Bool·beq (p (commandOf n)) (q n)) ≡ true
+    → p Unlisted ≡ false → ((n : ℕ) → 0x20 < n → q n ≡ false) → (n : ℕ) → p (commandOf n) ≡ q n
+by-number p q e none far n = go (ltb n 0x21) refl
   where
-    go : (t : Bool) → ltb n 33 ≡ t → p (commandOf n) ≡ q n
-    go true h = same _ _ (at 33 (λ n. Bool·beq (p (commandOf n)) (q n)) e n (ltb-true n 33 h))
+    go : (t : Bool) → ltb n 0x21 ≡ t → p (commandOf n) ≡ q n
+    go true h = same _ _ (at 0x21 (λ n. Bool·beq (p (commandOf n)) (q n)) e n (ltb-true n 0x21 h))
     go false h =
-        let l : 32 < n = ltb-false n 33 h in
+        let l : 0x20 < n = ltb-false n 0x21 h in
         ap p (unlisted-past n l) ∙ none ∙ sym (far n l)
 
 pub show-codes : (n : ℕ) → isShow (commandOf n) ≡ readOnly n
 unfolding commandOf
-show-codes = by-number isShow readOnly refl refl λ n h. simp (lt-leb n 7 (omega arith), and-false)
+show-codes = by-number isShow readOnly refl refl λ n h. simp (lt-leb n 0x07 (omega arith), and-false)
 
 pub entry-codes : (n : ℕ) → isEntry (commandOf n) ≡ onDescriptor n
 unfolding commandOf
-entry-codes = by-number isEntry onDescriptor refl refl λ n h. simp (lt-leb n 15 (omega arith), and-false)
+entry-codes = by-number isEntry onDescriptor refl refl λ n h. simp (lt-leb n 0x0F (omega arith), and-false)
 
 pub act-codes : (n : ℕ) → isAct (commandOf n) ≡ setOrClear n
 unfolding commandOf
-act-codes = by-number isAct setOrClear refl refl λ n h. simp (lt-leb n 17 (omega arith), lt-leb n 22 (omega arith), and-false)
+act-codes = by-number isAct setOrClear refl refl λ n h. simp (lt-leb n 0x11 (omega arith), lt-leb n 0x16 (omega arith), and-false)
 
 pub listed-codes : (n : ℕ) → isListed (commandOf n) ≡ listed n
 unfolding commandOf
 listed-codes =
     by-number isListed listed refl refl λ n h.
-    simp (lt-leb n 17 (omega arith), lt-leb n 22 (omega arith), ne-eqb n 32 (λ e. omega arith), and-false)
+    simp (lt-leb n 0x11 (omega arith), lt-leb n 0x16 (omega arith), ne-eqb n 0x20 (λ e. omega arith), and-false)
 
-pub software-reset-code : (n : ℕ) → isSoftwareReset (commandOf n) ≡ eqb n 16
+pub software-reset-code : (n : ℕ) → isSoftwareReset (commandOf n) ≡ eqb n 0x10
 unfolding commandOf
-software-reset-code = by-number isSoftwareReset (λ n. eqb n 16) refl refl λ n h. ne-eqb n 16 (λ e. omega arith)
+software-reset-code = by-number isSoftwareReset (λ n. eqb n 0x10) refl refl λ n h. ne-eqb n 0x10 (λ e. omega arith)

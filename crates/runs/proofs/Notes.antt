@@ -1,6 +1,6 @@
 -- own implies await, await implies request, and no orphan stands in the VTR: one invariant of every run from power-on.
 -- Assumes nothing.
-use mathlib.Core.Path.{_≡_, refl}
+use mathlib.Core.Path.{_≡_, refl, _∙_, ap}
 use mathlib.Core.Bool.{Bool, true, false, _&&_, _||_, or-true, true≢false, false≢true}
 use mathlib.Core.List.{List}
 use Prim.Native.Nat.{ℕ, _-_, _%_, _<_}
@@ -28,7 +28,7 @@ use Rattle.runs.proofs.Ways.{records, by-row, made}
 
 -- a VTR with a primary flag is none, whatever is added to it
 or-rooted : (a b : ℕ) → (lacks a PRIMARY && lacks b PRIMARY) ≡ false → orphan (bitOr a b) ≡ false
-or-rooted a b h = rw (lacks-or a b, h)
+or-rooted a b h = ap (λ (none : Bool). none && (has (bitOr a b) SWW || has (bitOr a b) FATL)) (lacks-or a b ∙ h)
 
 -- fewer flags beside the same primary flags
 fewer : (p s f x y : Bool) → (p && (s || f)) ≡ false → (p && (s && x || f && y)) ≡ false

@@ -105,6 +105,13 @@ event-small a c violation warning long = go (c .dma) violation warning refl
     go false false true e = lit< tt
     go false false false e = lit< tt
 
+counter-bounded : (p : Part) (n : ℕ) → nextCounter p n ≤ 3
+unfolding nextCounter
+counter-bounded Base n = cond-le (eqb n 0) (omega arith) (omega arith)
+counter-bounded Limit n = omega arith
+counter-bounded Attributes n = omega arith
+counter-bounded Whole n = omega arith
+
 module _ (back : Bool) (c : Cycle) (r : Registers) (d : Descriptor) where
   -- Memory cycles
 
@@ -132,13 +139,6 @@ module _ (back : Bool) (c : Cycle) (r : Registers) (d : Descriptor) where
       either : (b : Bool) → Follows (r .control) (cond b (r .control) k)
       either true = (λ s. s, λ s. s)
       either false = h
-
-  counter-bounded : (p : Part) (n : ℕ) → nextCounter p n ≤ 3
-  unfolding nextCounter
-  counter-bounded Base n = cond-le (eqb n 0) (omega arith) (omega arith)
-  counter-bounded Limit n = omega arith
-  counter-bounded Attributes n = omega arith
-  counter-bounded Whole n = omega arith
 
   entry-made : (p : Part) → Made back c r (entry r d p c)
   unfolding entry given controlled moved nextSegment
@@ -187,7 +187,7 @@ module _ (c : Cycle) (r : Registers) (d : Descriptor) where
   decided-made : (two one reset : Bool)
       → Made
       (reset || not reset && eqb (c .status) 4 && cpu c
-      || not reset && eqb (c .status) 3 && (cpu c && c .select) && write c && eqb (c .offset) 16)
+      || not reset && eqb (c .status) 3 && (cpu c && c .select) && write c && eqb (c .offset) 0x10)
       c r (decidedBy two one reset r d c)
   unfolding refused plain resetBy restarted byStatus
   decided-made true one reset = record { shown = refl; became = stayed }

@@ -22,8 +22,8 @@ takesBack c = c .reset || acknowledge c || softwareReset c
 abbrev pub TrapStands : Type 0
 TrapStands =
     (u : Unit) (cs : List Cycle)
-    -- the line stands
+    -- the line stands, in any unit, damaged or not
     → u .registers .notes .request ≡ true
-    -- none of the three comes
+    -- none of the three comes; all else may, refused cycles too
     → Every (λ c. takesBack c ≡ false) cs
     → Every (λ x. x .trap ≡ true) (answers u cs)
