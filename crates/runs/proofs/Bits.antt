@@ -1,32 +1,18 @@
--- What masks ask for, and laws of flags set and cleared.
+-- Laws of flags set and cleared.
 -- Assumes nothing.
-use mathlib.Core.Path.{_≡_, refl, sym, _∙_, ap}
+use mathlib.Core.Path.{_≡_, refl, ap}
 use mathlib.Core.Bool.{Bool, true, false, not, _&&_, _||_, false≢true}
-use Prim.Native.Nat.{ℕ, zero, suc, _+_, _-_, _*_, _/_, _%_, _^_, _<_}
-use native.Mathlib.Nat.{zero-mul, one-mul}
+use Prim.Native.Nat.{ℕ, zero, suc, _/_, _%_, _^_, _<_}
 use native.Mathlib.Omega.{arith}
-use lib.Bits.{and-shr, and-mod, bitAnd, bitOr, and-high, or-shr, or-mod, or-lt, and-mask, or-zero-l, or-add-and}
-use lib.Bits.{and-le-r}
+use lib.Bits.{and-shr, and-mod, bitAnd, bitOr, or-shr, or-mod, or-lt, and-mask, or-zero-l, or-add-and, and-le-r}
 use lib.Dec.{eqb, lit<}
-use lib.Pow.{pow-pos, pow-add}
 use borrow.Author.Tests.{ne-eqb}
 use Rattle.runs.specs.Sequences.{_⇒_}
+use Rattle.rules.proofs.FlagLaws.{has-bit}
 use Rattle.rules.specs.Flags.{has, lacks, with, flagIf}
 use Rattle.rules.specs.Masks.{PRIMARY}
 
--- a mask of one bit asks for that bit
-one-bit : (x k : ℕ) → bitAnd x (2 ^ k) ≡ x / 2 ^ k % 2 * 2 ^ k
-one-bit x k = let double : 2 ^ (1 + k) - 2 ^ k ≡ 2 ^ k = omega (arith, pow-add 2 1 k) in sym (ap (bitAnd x) double) ∙ and-high x 1 k
-
-bit-times : (b k : ℕ) → b < 2 → not (eqb (b * 2 ^ k) 0) ≡ eqb b 1
-bit-times zero k h = simp zero-mul
-bit-times (suc zero) k h = simp one-mul (ap not (ne-eqb (2 ^ k) 0 (λ e. omega (arith, pow-pos k))))
-bit-times (suc (suc b)) k h = absurd (omega arith)
-
-has-bit : (x k : ℕ) → has x (2 ^ k) ≡ eqb (x / 2 ^ k % 2) 1
-has-bit x k = ap (λ (b : ℕ). not (eqb b 0)) (one-bit x k) ∙ bit-times (x / 2 ^ k % 2) k (omega arith)
-
--- so a law of two bits is one of flags
+-- a mask of one bit asks for that bit, so a law of two bits is one of flags
 two-bits : (P : ℕ → ℕ → Type 0) → P 0 0 → P 0 1 → P 1 0 → P 1 1 → (x y : ℕ) → x < 2 → y < 2 → P x y
 two-bits P a b c d zero zero h k = a
 two-bits P a b c d zero (suc zero) h k = b
