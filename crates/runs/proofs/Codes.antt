@@ -1,0 +1,120 @@
+-- Which command a code stands for, told by its number: antt computes the codes up to the last in the table, and past it none is listed.
+-- Assumes nothing.
+use mathlib.Core.Path.{_≡_, refl, sym, _∙_, ap}
+use mathlib.Core.Bool.{Bool, true, false, _&&_, Bool·beq, and-false}
+use mathlib.Core.List.{List, [], _∷_}
+use Prim.Native.Nat.{ℕ, _<_, _≤_}
+use native.Mathlib.Omega.{arith}
+use lib.Dec.{eqb, leb, ltb}
+use borrow.Author.Tests.{ltb-true, ltb-false, leb-true, ne-eqb, lt-leb}
+use Rattle.rules.specs.Codes.{commandOf, codes, lookUp}
+use Rattle.rules.specs.declared.Action.the-variants.{SoftwareReset, ClearVtr, ClearSww, ClearFatl, SetCpui, SetDmai}
+use Rattle.rules.specs.declared.Command.{Command}
+use Rattle.rules.specs.declared.Command.the-variants.{Mr, Sar, Dscr, Show, Entry, Act, Unlisted}
+use Rattle.runs.specs.Cycles.{readOnly, onDescriptor, setOrClear, listed}
+use Rattle.runs.proofs.Tests.{each, at, and-l, and-r}
+
+abbrev pub isShow : Command → Bool
+isShow Mr = false
+isShow Sar = false
+isShow Dscr = false
+isShow (Show g) = true
+isShow (Entry p) = false
+isShow (Act a) = false
+isShow Unlisted = false
+
+abbrev pub isEntry : Command → Bool
+isEntry Mr = false
+isEntry Sar = false
+isEntry Dscr = false
+isEntry (Show g) = false
+isEntry (Entry p) = true
+isEntry (Act a) = false
+isEntry Unlisted = false
+
+abbrev pub isAct : Command → Bool
+isAct Mr = false
+isAct Sar = false
+isAct Dscr = false
+isAct (Show g) = false
+isAct (Entry p) = false
+isAct (Act a) = true
+isAct Unlisted = false
+
+abbrev pub isListed : Command → Bool
+isListed Mr = true
+isListed Sar = true
+isListed Dscr = true
+isListed (Show g) = true
+isListed (Entry p) = true
+isListed (Act a) = true
+isListed Unlisted = false
+
+abbrev pub isSoftwareReset : Command → Bool
+isSoftwareReset Mr = false
+isSoftwareReset Sar = false
+isSoftwareReset Dscr = false
+isSoftwareReset (Show g) = false
+isSoftwareReset (Entry p) = false
+isSoftwareReset (Act SoftwareReset) = true
+isSoftwareReset (Act ClearVtr) = false
+isSoftwareReset (Act ClearSww) = false
+isSoftwareReset (Act ClearFatl) = false
+isSoftwareReset (Act SetCpui) = false
+isSoftwareReset (Act SetDmai) = false
+isSoftwareReset Unlisted = false
+
+-- no row of the table has a code above %20
+low : List (ℕ × Command) → Bool
+low [] = true
+low (row ∷ rows) = leb (row .0) 0x20 && low rows
+
+past : (n : ℕ) → 0x20 < n → (rows : List (ℕ × Command)) → low rows ≡ true → lookUp n rows ≡ Unlisted
+unfolding low
+past n h [] e = refl
+past n h (row ∷ rows) e =
+    let small : row .0 ≤ 0x20 = leb-true _ _ (and-l (leb (row .0) 0x20) _ e) in
+    rw (ne-eqb n (row .0) (λ q. omega arith)) (past n h rows (and-r (leb (row .0) 0x20) _ e))
+
+unlisted-past : (n : ℕ) → 0x20 < n → commandOf n ≡ Unlisted
+unfolding commandOf low
+unlisted-past n h = past n h codes refl
+
+same : (a b : Bool) → Bool·beq a b ≡ true → a ≡ b
+same true true e = refl
+same true false e = sym e
+same false true e = e
+same false false e = refl
+
+-- a test of the command is a test of its number, where the two agree up to %20 and the second fails past it
+by-number : (p : Command → Bool) (q : ℕ → Bool) → each 0x21 (λ n. Bool·beq (p (commandOf n)) (q n)) ≡ true
+    → p Unlisted ≡ false → ((n : ℕ) → 0x20 < n → q n ≡ false) → (n : ℕ) → p (commandOf n) ≡ q n
+by-number p q e none far n = go (ltb n 0x21) refl
+  where
+    go : (t : Bool) → ltb n 0x21 ≡ t → p (commandOf n) ≡ q n
+    go true h = same _ _ (at 0x21 (λ n. Bool·beq (p (commandOf n)) (q n)) e n (ltb-true n 0x21 h))
+    go false h =
+        let l : 0x20 < n = ltb-false n 0x21 h in
+        ap p (unlisted-past n l) ∙ none ∙ sym (far n l)
+
+pub show-codes : (n : ℕ) → isShow (commandOf n) ≡ readOnly n
+unfolding commandOf
+show-codes = by-number isShow readOnly refl refl λ n h. simp (lt-leb n 0x07 (omega arith), and-false)
+
+pub entry-codes : (n : ℕ) → isEntry (commandOf n) ≡ onDescriptor n
+unfolding commandOf
+entry-codes = by-number isEntry onDescriptor refl refl λ n h. simp (lt-leb n 0x0F (omega arith), and-false)
+
+pub act-codes : (n : ℕ) → isAct (commandOf n) ≡ setOrClear n
+unfolding commandOf
+act-codes = by-number isAct setOrClear refl refl λ n h. simp (lt-leb n 0x11 (omega arith), lt-leb n 0x16 (omega arith), and-false)
+
+pub listed-codes : (n : ℕ) → isListed (commandOf n) ≡ listed n
+unfolding commandOf
+listed-codes =
+    by-number isListed listed refl refl λ n h.
+    simp (lt-leb n 0x11 (omega arith), lt-leb n 0x16 (omega arith), ne-eqb n 0x20 (λ e. omega arith), and-false)
+
+pub software-reset-code : (n : ℕ) → isSoftwareReset (commandOf n) ≡ eqb n 0x10
+unfolding commandOf
+software-reset-code = by-number isSoftwareReset (λ n. eqb n 0x10) refl refl λ n h. ne-eqb n 0x10 (λ e. omega arith)

@@ -1,0 +1,17 @@
+-- laws that the proofs share
+pub mod Tests
+pub mod Bits
+pub mod Tables
+pub mod Codes
+pub mod Purposes
+pub mod Ways
+pub mod Runs
+-- what is claimed in specs/, one file for each
+pub mod Undamaged
+pub mod Refusal
+pub mod Trap
+pub mod Notes
+pub mod Wider
+pub mod Pairs
+pub mod Tighter
+pub mod Needed

@@ -1,0 +1,136 @@
+-- Why demand 3 needs its stop and leaves out writes to descriptors: two runs that antt computes.
+-- Assumes nothing.
+use mathlib.Core.Path.{refl}
+use mathlib.Core.Bool.{Bool, true, false, false≢true}
+use mathlib.Core.List.{List, [], _∷_}
+use Prim.Native.Nat.{ℕ, zero, suc, _<_}
+use lib.ListN.{getD, replicate}
+use Rattle.rules.specs.Masks.{RD, CPUI, DIRW}
+use lib.Dec.{lit≤}
+use Rattle.rules.specs.PowerOn.{none, quiet, powerOn}
+use Rattle.rules.specs.Refusals.{damaged, outOfRange}
+use Rattle.rules.specs.Runs.{answers}
+use Rattle.rules.specs.Status.{purposeOf, byStatus}
+use Rattle.rules.specs.Checks.{rightsOf, outOfLength, warns}
+use Rattle.rules.specs.Recording.{eventOf, busStatus, firstEntry, recorded}
+use Rattle.rules.specs.Memory.{seen, begun, touchedBy, noted, checked, accessed, aborted, memory}
+use Rattle.rules.specs.Translation.{wayOf}
+use Rattle.rules.specs.Codes.{commandOf}
+use Rattle.rules.specs.Entry.{replaced, indexOf, nextCounter, nextSegment, moved, writtenBy}
+use Rattle.rules.specs.Commands.{given, controlled, entry, executed, commanded}
+use Rattle.rules.specs.Step.{decided, placeOf, changed, decision, after}
+use Rattle.rules.specs.declared.Cycle.{Cycle}
+use Rattle.rules.specs.declared.Descriptor.{Descriptor}
+use Rattle.rules.specs.declared.Unit.{Unit}
+use Rattle.runs.specs.Cycles.{descriptorWrite}
+use Rattle.runs.specs.Tighter.{Wider, Loosened, before, StopNeeded, WritesExcluded}
+use Rattle.runs.specs.Undamaged.{Undamaged}
+use Rattle.runs.proofs.Wider.{wider-refl}
+
+-- Units and cycles
+
+-- the descriptors of segments 0 to 2, MR %C0 (MSEN and TRNS set), all else as at power-on
+abbrev unit : (x y z : Descriptor) → Unit
+unit x y z = record {
+  table = x ∷ y ∷ z ∷ replicate 61 none;
+  registers = record {
+    control = record { mr = 0xC0; sar = 0; dscr = 0 };
+    faults = powerOn .registers .faults;
+    fetched = powerOn .registers .fetched;
+    notes = quiet;
+  };
+}
+
+abbrev descriptor : (base limit attributes : ℕ) → Descriptor
+descriptor base limit attributes = record { base = base; limit = limit; attributes = attributes }
+
+-- a CPU cycle in system mode
+abbrev cycle : (status : ℕ) → (read select : Bool) → (segment offset byte : ℕ) → Cycle
+cycle status read select segment offset byte = record {
+  status = status;
+  read = read;
+  normal = false;
+  dma = false;
+  select = select;
+  segment = segment;
+  offset = offset;
+  byte = byte;
+  reset = false;
+}
+
+unit-undamaged : (x y z : Descriptor) → Undamaged (unit x y z)
+unfolding damaged
+unit-undamaged x y z = record { size = refl; sound = refl }
+
+unit-loosened : (x y x' y' z : Descriptor) → Wider x x' → Wider y y' → Loosened (unit x y z) (unit x' y' z)
+unit-loosened x y x' y' z w v = record { registers = refl; table = entries }
+  where
+    entries : (i : ℕ) → i < 64 → Wider (getD (unit x y z .table) i none) (getD (unit x' y' z .table) i none)
+    entries zero h = w
+    entries (suc zero) h = v
+    entries (suc (suc i)) h = wider-refl _
+
+-- The stop. Segment 1 is read-only in the first unit alone, segment 2 is closed to the CPU in both. A write to segment 1 is a violation in
+-- the first unit, whose next fetch is therefore an aborted one, SUP off; the second unit suppresses that fetch.
+
+readOnly : Descriptor
+readOnly = descriptor 0x1000 0xFF RD
+
+writable : Descriptor
+writable = descriptor 0x1000 0xFF 0
+
+closed : Descriptor
+closed = descriptor 0x2000 0xFF CPUI
+
+faultThenFetch : List Cycle
+faultThenFetch = cycle 8 false false 1 0 0 ∷ cycle 13 true false 2 0 0 ∷ []
+
+writable-wider : Wider readOnly writable
+unfolding readOnly writable
+writable-wider =
+    record {
+      base = refl;
+      direction = refl;
+      rights = (λ e. refl, (λ e. e, (λ e. e, (λ e. e, (λ e. e, refl)))));
+      up = λ e. lit≤ tt;
+      down = λ e. lit≤ tt;
+    }
+
+pub stop-needed : StopNeeded
+unfolding readOnly writable closed faultThenFetch answers before descriptorWrite damaged outOfRange decided placeOf changed decision after purposeOf byStatus seen begun touchedBy noted checked accessed aborted memory eventOf busStatus firstEntry recorded rightsOf outOfLength warns wayOf
+stop-needed claim =
+    false≢true
+    (claim (unit none readOnly closed) (unit none writable closed) faultThenFetch
+    (unit-undamaged _ _ _) (unit-undamaged _ _ _) (unit-loosened _ _ _ _ _ (wider-refl _) writable-wider)
+    (refl, (refl, refl)) .1 .0 .sup refl)
+
+-- Writes to descriptors. Segment 0 ends at %10 in the first unit and at %20 in the second. Once DIRW is written to both, it begins there: the
+-- block %18 is then inside the first's and outside the second's.
+
+short : Descriptor
+short = descriptor 0 0x10 0
+
+long : Descriptor
+long = descriptor 0 0x20 0
+
+turnThenRead : List Cycle
+turnThenRead = cycle 3 false true 0 0x0A DIRW ∷ cycle 8 true false 0 0x18 0 ∷ []
+
+long-wider : Wider short long
+unfolding short long
+long-wider =
+    record {
+      base = refl;
+      direction = refl;
+      rights = (λ e. e, (λ e. e, (λ e. e, (λ e. e, (λ e. e, refl)))));
+      up = λ e. lit≤ tt;
+      down = λ e. absurd (false≢true e);
+    }
+
+pub writes-excluded : WritesExcluded
+unfolding short long turnThenRead answers before damaged outOfRange decided placeOf changed decision after purposeOf byStatus seen begun checked accessed memory rightsOf outOfLength wayOf commandOf replaced indexOf nextCounter nextSegment moved writtenBy given controlled entry executed commanded
+writes-excluded claim =
+    false≢true
+    (claim (unit short none none) (unit long none none) turnThenRead
+    (unit-undamaged _ _ _) (unit-undamaged _ _ _) (unit-loosened _ _ _ _ _ long-wider (wider-refl _))
+    (refl, (refl, refl)) .1 .0 .sup refl)

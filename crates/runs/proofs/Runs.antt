@@ -1,0 +1,28 @@
+-- One induction over the cycles of a run, for every claim about a single run.
+-- Assumes nothing.
+use mathlib.Core.Path.{_≡_, refl}
+use mathlib.Core.Bool.{true}
+use mathlib.Core.List.{List, [], _∷_}
+use Rattle.rules.specs.Runs.{answers, final}
+use Rattle.rules.specs.Step.{stepped}
+use Rattle.rules.specs.declared.Answer.{Answer}
+use Rattle.rules.specs.declared.Cycle.{Cycle}
+use Rattle.rules.specs.declared.Unit.{Unit}
+use Rattle.runs.specs.Sequences.{Every}
+use Rattle.runs.proofs.Tests.{every}
+
+-- where each cycle is a Q, and each such step keeps P and answers an A, a run does
+pub kept : (Q : Cycle → Type 0) (P : Unit → Type 0) (A : Answer → Type 0)
+    → ((u : Unit) (c : Cycle) → Q c → P u → A (stepped u c .answer) × P (stepped u c .unit))
+    → (cs : List Cycle) (u : Unit) → Every Q cs → P u → Every A (answers u cs) × P (final u cs)
+unfolding answers final
+kept Q P A step [] u q p = (refl, p)
+kept Q P A step (c ∷ cs) u q p =
+    let now : A (stepped u c .answer) × P (stepped u c .unit) = step u c (q .0) p in
+    let later : Every A (answers (stepped u c .unit) cs) × P (final (stepped u c .unit) cs) = kept Q P A step cs _ (q .1) (now .1) in
+    ((now .0, later .0), later .1)
+
+-- what every step keeps, every run keeps
+pub always : (P : Unit → Type 0) → ((u : Unit) (c : Cycle) → P u → P (stepped u c .unit)) → (u : Unit) (cs : List Cycle) → P u → P (final u cs)
+always P step u cs p =
+    kept (λ c. true ≡ true) P (λ x. true ≡ true) (λ u c q p. (refl, step u c p)) cs u (every _ (λ c. refl) cs) p .1

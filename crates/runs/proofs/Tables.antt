@@ -1,0 +1,23 @@
+-- Laws of a table's entries after a store or a map.
+-- Assumes nothing.
+use mathlib.Core.Path.{_≡_, refl, ap}
+use mathlib.Core.List.{List, [], _∷_, map}
+use Prim.Native.Nat.{ℕ, zero, suc}
+use native.Mathlib.Omega.{arith}
+use lib.ListN.{length, getD, set}
+
+module _ {A : Type 0} where
+  pub set-at : (P : A → Type 0) (l : List A) (i j : ℕ) (x d : A) → P (getD l j d) → (j ≡ i → P x) → P (getD (set l i x) j d)
+  set-at P [] i j x d h k = h
+  set-at P (a ∷ l) zero zero x d h k = k refl
+  set-at P (a ∷ l) zero (suc j) x d h k = h
+  set-at P (a ∷ l) (suc i) zero x d h k = h
+  set-at P (a ∷ l) (suc i) (suc j) x d h k = set-at P l i j x d h (λ e. k (ap suc e))
+
+  pub map-at : (R : A → A → Type 0) (f : A → A) (d : A) → ((x y : A) → R x y → R (f x) (f y)) → (s t : List A) → length s ≡ length t
+      → ((i : ℕ) → R (getD s i d) (getD t i d)) → (i : ℕ) → R (getD (map f s) i d) (getD (map f t) i d)
+  map-at R f d m [] [] e h i = h i
+  map-at R f d m [] (y ∷ t) e h i = absurd (omega arith)
+  map-at R f d m (x ∷ s) [] e h i = absurd (omega arith)
+  map-at R f d m (x ∷ s) (y ∷ t) e h zero = m x y (h 0)
+  map-at R f d m (x ∷ s) (y ∷ t) e h (suc i) = map-at R f d m s t (omega arith) (λ j. h (suc j)) i

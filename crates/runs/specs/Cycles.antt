@@ -1,0 +1,40 @@
+-- Which cycles the claims name, by status and code number as document 01 prints them.
+-- Assumes nothing.
+use mathlib.Core.Bool.{Bool, not, _&&_, _||_}
+use Prim.Native.Nat.{ℕ}
+use lib.Dec.{eqb, leb}
+use Rattle.rules.specs.Bus.{cpu, write}
+use Rattle.rules.specs.Refusals.{outOfRange}
+use Rattle.rules.specs.declared.Cycle.{Cycle}
+
+-- "Status 3, CPU, select on: command", with the reset line off
+abbrev pub selectedCommand : Cycle → Bool
+selectedCommand c = not (c .reset) && eqb (c .status) 3 && (cpu c && c .select)
+
+-- "Status 4, CPU: acknowledge", with the reset line off
+abbrev pub acknowledge : Cycle → Bool
+acknowledge c = not (c .reset) && eqb (c .status) 4 && cpu c
+
+-- "read-only %02 VTR, %03 VSN, %04 VOFF, %05 BCSR, %06 ISN, %07 IOFF"
+abbrev pub readOnly : (code : ℕ) → Bool
+readOnly n = leb 0x02 n && leb n 0x07
+
+-- "%08 base, %09 limit, %0A attributes, %0B whole descriptor; %0C to %0F the same four with SAR stepped"
+abbrev pub onDescriptor : (code : ℕ) → Bool
+onDescriptor n = leb 0x08 n && leb n 0x0F
+
+-- software reset %10, clear VTR %11, clear SWW %13, clear FATL %14, set all CPUI %15, set all DMAI %16
+abbrev pub setOrClear : (code : ℕ) → Bool
+setOrClear n = leb 0x10 n && leb n 0x11 || leb 0x13 n && leb n 0x16
+
+-- %00 to %11, %13 to %16, and DSCR %20
+abbrev pub listed : (code : ℕ) → Bool
+listed n = leb n 0x11 || leb 0x13 n && leb n 0x16 || eqb n 0x20
+
+-- a command that is not refused, and writes a byte of a descriptor
+unfoldable pub descriptorWrite : Cycle → Bool
+descriptorWrite c = not (outOfRange c) && selectedCommand c && write c && onDescriptor (c .offset)
+
+-- "Software reset": a write of %10
+abbrev pub softwareReset : Cycle → Bool
+softwareReset c = selectedCommand c && write c && eqb (c .offset) 0x10

@@ -1,0 +1,22 @@
+-- Words about lists and tests that the claims are written in.
+-- Assumes nothing.
+use mathlib.Core.Path.{_≡_}
+use mathlib.Core.Bool.{Bool, true}
+use mathlib.Core.List.{List, [], _∷_}
+
+-- where the first test holds, the second does
+infixr 20 _⇒_
+abbrev pub _⇒_ : Bool → Bool → Type 0
+x ⇒ y = x ≡ true → y ≡ true
+
+-- each element of a list is as said
+abbrev pub Every : {A : Type 0} → (A → Type 0) → List A → Type 0
+Every P [] = true ≡ true
+Every P (x ∷ xs) = P x × Every P xs
+
+-- two lists have one length, and the elements at each place stand in a relation
+abbrev pub Both : {A : Type 0} → (A → A → Type 0) → List A → List A → Type 0
+Both R [] [] = true ≡ true
+Both R [] (y ∷ ys) = ⊥
+Both R (x ∷ xs) [] = ⊥
+Both R (x ∷ xs) (y ∷ ys) = R x y × Both R xs ys

@@ -1,0 +1,40 @@
+-- "A unit that doesn't meet 2 is called undamaged."
+-- Assumes nothing.
+use mathlib.Core.Path.{_≡_}
+use mathlib.Core.Bool.{false}
+use mathlib.Core.List.{List}
+use mathlib.Core.Logic.{_↔_}
+use Prim.Native.Nat.{_≤_}
+use lib.ListN.{length}
+use Rattle.rules.specs.PowerOn.{powerOn}
+use Rattle.rules.specs.Refusals.{damaged}
+use Rattle.rules.specs.Runs.{final}
+use Rattle.rules.specs.declared.Cycle.{Cycle}
+use Rattle.rules.specs.declared.Registers.{Registers}
+use Rattle.rules.specs.declared.Unit.{Unit}
+
+-- the ranges of "What the unit is given, what it keeps", of the registers that 2 looks at
+pub record Bounded (r : Registers) : Type 0 where
+  pub sar : r .control .sar ≤ 63
+  pub vsn : r .faults .vsn ≤ 63
+  pub isn : r .fetched .isn ≤ 63
+  pub bcsr : r .faults .bcsr ≤ 63
+  pub dscr : r .control .dscr ≤ 3
+
+-- an undamaged unit
+pub record Undamaged (u : Unit) : Type 0 where
+  -- "64 descriptors": the code's type says so of every unit; a list of antt may have any length
+  pub size : length (u .table) ≡ 64
+  pub sound : damaged (u .registers) ≡ false
+
+-- CLAIM: the bounds hold exactly where 2 is not met.
+abbrev pub BoundedExactly : Type 0
+BoundedExactly = (r : Registers) → (damaged r ≡ false) ↔ Bounded r
+
+-- CLAIM: an undamaged unit stays undamaged, whatever cycles come, in whatever order.
+abbrev pub StaysUndamaged : Type 0
+StaysUndamaged = (u : Unit) (cs : List Cycle) → Undamaged u → Undamaged (final u cs)
+
+-- CLAIM: so no run from power-on ever meets 2.
+abbrev pub UndamagedFromPowerOn : Type 0
+UndamagedFromPowerOn = (cs : List Cycle) → Undamaged (final powerOn cs)
