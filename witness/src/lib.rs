@@ -7,7 +7,9 @@
 
 pub mod checks;
 pub mod commands;
+pub mod coverage;
 pub mod cycle;
+pub mod generate;
 pub mod memory;
 pub mod recording;
 pub mod script;
