@@ -27,9 +27,11 @@ impl Event<'_> {
         let memory = matches!(cycle.status, 0x8..=0xD) && !cycle.reset;
         let fetch = memory && Document01::fetches(&before, &cycle);
         Event {
-            finding: translated
-                .then(|| bus::finding(&before, &cycle))
-                .unwrap_or_default(),
+            finding: if translated {
+                bus::finding(&before, &cycle)
+            } else {
+                None
+            },
             fetch,
             own: before.own && !fetch,
             held: before.hold && !fetch && !cycle.dma && memory,

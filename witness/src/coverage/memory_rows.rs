@@ -11,19 +11,24 @@ use super::event::Event;
 use super::Row;
 
 pub fn rows() -> Vec<Row> {
-    let mut rows = fetches();
-    rows.extend(translation());
-    rows.extend(violations());
-    rows.extend(narrow_passes());
-    rows.extend(suppression());
-    rows.extend(marks());
-    rows
+    let subjects = [
+        aborted_fetches(),
+        other_fetches(),
+        not_driven(),
+        driven(),
+        violations(),
+        dma_violations(),
+        length_passes(),
+        attribute_passes(),
+        suppression(),
+        marks(),
+    ];
+    subjects.into_iter().flatten().collect()
 }
 
-fn fetches() -> Vec<Row> {
+fn aborted_fetches() -> Vec<Row> {
     let aborted = |e: &Event| e.is(Kind::AbortedFetch);
     let route = |e: &Event| Document01::route(&e.before, &e.cycle);
-    let fresh = move |e: &Event| e.fetch && !aborted(e);
     vec![
         Row::record("F: translated", move |e| {
             aborted(e) && matches!(route(e), Route::Translated(_))
@@ -43,6 +48,12 @@ fn fetches() -> Vec<Row> {
         Row::record("F: request gone on standing", move |e| {
             aborted(e) && e.after.request
         }),
+    ]
+}
+
+fn other_fetches() -> Vec<Row> {
+    let fresh = |e: &Event| e.fetch && !e.is(Kind::AbortedFetch);
+    vec![
         Row::record("fetch: translated", move |e| {
             fresh(e) && e.is(Kind::Translated)
         }),
@@ -65,7 +76,7 @@ fn fetches() -> Vec<Row> {
     ]
 }
 
-fn translation() -> Vec<Row> {
+fn not_driven() -> Vec<Row> {
     let off = |e: &Event| matches!(e.cycle.status, 0x8..=0xD) && e.is(Kind::Ignored);
     let on = |e: &Event| e.before.mode(mode::MSEN) && e.before.mode(mode::TRNS);
     let range = |e: &Event| e.before.mode(mode::URS) == (e.cycle.segment >= 64);
@@ -88,6 +99,11 @@ fn translation() -> Vec<Row> {
         Row::record("not driven: system mode, NMS set", move |e| {
             off(e) && on(e) && range(e) && !e.cycle.normal
         }),
+    ]
+}
+
+fn driven() -> Vec<Row> {
+    vec![
         Row::record("passed: upper range", |e| {
             e.is(Kind::Passed) && e.cycle.segment >= 64
         }),
@@ -110,14 +126,13 @@ fn translation() -> Vec<Row> {
 }
 
 fn violations() -> Vec<Row> {
-    let flags = [
+    let mut rows = Vec::new();
+    for (name, flag) in [
         ("RDV", violation::RDV),
         ("SYSV", violation::SYSV),
         ("CPUIV", violation::CPUIV),
         ("EXCV", violation::EXCV),
-    ];
-    let mut rows = Vec::new();
-    for (name, flag) in flags {
+    ] {
         rows.push(Row::record(format!("CPU violation: {name}"), move |e| {
             e.cpu_violation() && e.found(flag)
         }));
@@ -130,24 +145,28 @@ fn violations() -> Vec<Row> {
             ));
         }
     }
-    for (name, flag) in [
+    rows.push(Row::record("CPU violation: two flags or more", |e| {
+        e.cpu_violation() && (e.after.vtr & violation::PRIMARY).count_ones() > 1 && !e.primary()
+    }));
+    rows
+}
+
+fn dma_violations() -> Vec<Row> {
+    let flags = [
         ("RD", attribute::RD),
         ("SYS", attribute::SYS),
         ("EXC", attribute::EXC),
         ("DMAI", attribute::DMAI),
-    ] {
-        rows.push(Row::record(
-            format!("DMA violation: {name} alone"),
-            move |e| {
-                let other = attribute::RD | attribute::SYS | attribute::EXC | attribute::DMAI;
-                let alone = e.descriptor().attributes & other == flag;
+    ];
+    let all = attribute::RD | attribute::SYS | attribute::EXC | attribute::DMAI;
+    let mut rows: Vec<Row> = flags
+        .map(|(name, flag)| {
+            Row::record(format!("DMA violation: {name} alone"), move |e| {
+                let alone = e.descriptor().attributes & all == flag;
                 e.violation() && e.cycle.dma && alone && !e.found(violation::SLV)
-            },
-        ));
-    }
-    rows.push(Row::record("CPU violation: two flags or more", |e| {
-        e.cpu_violation() && (e.after.vtr & violation::PRIMARY).count_ones() > 1 && !e.primary()
-    }));
+            })
+        })
+        .into();
     rows.push(Row::record("DMA violation while hold stands", |e| {
         e.violation() && e.cycle.dma && e.before.hold
     }));
@@ -155,9 +174,8 @@ fn violations() -> Vec<Row> {
 }
 
 /// Cycles that a wrong check would refuse.
-fn narrow_passes() -> Vec<Row> {
+fn length_passes() -> Vec<Row> {
     let passes = |e: &Event| e.finding.is_some() && !e.violation();
-    let has = |e: &Event, flag: u8| e.descriptor().has(flag);
     vec![
         Row::record("passes: offset equal to limit, upward", move |e| {
             passes(e) && !e.stack() && e.cycle.offset == e.descriptor().limit
@@ -173,6 +191,14 @@ fn narrow_passes() -> Vec<Row> {
             let above = e.cycle.offset > e.descriptor().limit;
             passes(e) && e.stack() && above && !e.cycle.read && !e.cycle.dma
         }),
+    ]
+}
+
+/// The same of the attributes.
+fn attribute_passes() -> Vec<Row> {
+    let passes = |e: &Event| e.finding.is_some() && !e.violation();
+    let has = |e: &Event, flag: u8| e.descriptor().has(flag);
+    vec![
         Row::record("passes: RD and a read", move |e| {
             passes(e) && has(e, attribute::RD) && e.cycle.read
         }),

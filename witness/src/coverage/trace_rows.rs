@@ -5,8 +5,10 @@ use crate::Document01;
 
 use super::{Met, Row};
 
+type Judge = fn(&[u8]) -> bool;
+
 pub fn rows() -> Vec<Row> {
-    let rows: [(&str, fn(&[u8]) -> bool); 10] = [
+    let rows: [(&str, Judge); 10] = [
         ("trace: good", |trace| Document01::count(trace).is_ok()),
         ("trace: good, fewer than 4 records", |trace| {
             Document01::count(trace).is_ok_and(|count| count < 4)

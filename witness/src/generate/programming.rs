@@ -83,18 +83,16 @@ fn load(bus: &mut Bus, number: u8, descriptor: Descriptor) {
         bus.write(code::DSCR, dscr);
     }
     bus.write(code::SAR, sar);
-    match bus.random.below(4) {
-        0 => [high, low, limit, attributes].map(|byte| bus.write(0x0B, byte)),
-        1 => [high, low, limit, attributes].map(|byte| bus.write(0x0F, byte)),
-        2 => [(0x08, high), (0x08, low), (0x09, limit), (0x0A, attributes)]
-            .map(|(code, byte)| bus.write(code, byte)),
-        _ => {
-            for (code, byte) in [(0x0A, attributes), (0x09, limit), (0x0C, high), (0x0C, low)] {
-                bus.write(code, byte);
-            }
-            return;
-        }
+    let whole = |code: u8| [(code, high), (code, low), (code, limit), (code, attributes)];
+    let moves = match bus.random.below(4) {
+        0 => whole(0x0B),
+        1 => whole(0x0F),
+        2 => [(0x08, high), (0x08, low), (0x09, limit), (0x0A, attributes)],
+        _ => [(0x0A, attributes), (0x09, limit), (0x0C, high), (0x0C, low)],
     };
+    for (code, byte) in moves {
+        bus.write(code, byte);
+    }
 }
 
 /// Reads attributes back, or all of it: REF and CHG are seen nowhere else.
@@ -140,11 +138,11 @@ pub fn wrong_commands(bus: &mut Bus) {
     for _ in 0..bus.random.between(2, 6) {
         let any = bus.random.between(0x21, 0xFF) as u8;
         let near = bus.random.between(0x17, 0x1F) as u8;
-        let data = bus.random.byte();
+        let (read, data) = (bus.random.coin(), bus.random.byte());
         match bus.random.below(5) {
-            0 => bus.command(any, data % 2 == 0, data),
-            1 => bus.command(near, data % 2 == 0, data),
-            2 => bus.command(0x12, data % 2 == 0, data),
+            0 => bus.command(any, read, data),
+            1 => bus.command(near, read, data),
+            2 => bus.command(0x12, read, data),
             3 => bus.write(data % 6 + code::VTR, data),
             _ => {
                 let clear = bus.random.pick(&[0x10, 0x11, 0x13, 0x14, 0x15, 0x16]);

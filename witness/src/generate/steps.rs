@@ -13,15 +13,16 @@ use super::story::story;
 const KINDS: [&str; 6] = ["sane", "orphan", "damaged", "range", "any", "story"];
 
 /// A script of so many cases, each with a unit of its own.
-pub fn script(seed: u64, cases: usize) -> String {
-    let mut text = String::new();
-    for case in 0..cases {
+pub fn script(seed: u64, count: usize) -> String {
+    cases(seed, count).collect()
+}
+
+pub fn cases(seed: u64, count: usize) -> impl Iterator<Item = String> {
+    (0..count).map(move |case| {
         let kind = KINDS[case % KINDS.len()];
         let random = Random::new(seed, case as u64);
-        writeln!(text, "# {case} {kind}").expect("a string takes every line");
-        text.push_str(&scene(random, kind));
-    }
-    text
+        format!("# {case} {kind}\n{}", scene(random, kind))
+    })
 }
 
 fn scene(mut random: Random, kind: &str) -> String {
@@ -140,8 +141,7 @@ fn orphan(bus: &mut Bus) -> Unit {
 /// One register out of its bounds, often by one.
 fn damaged(bus: &mut Bus) -> Unit {
     let mut unit = sane(bus);
-    let above = bus.random.pick(&[0, 0, 0xC0, 0x40]) | bus.random.byte() % 2;
-    let number = 64 + above % 192;
+    let number = bus.random.pick(&[64, 64, 65, 127, 128, 0xFF]);
     match bus.random.below(5) {
         0 => unit.sar = number,
         1 => unit.vsn = number,

@@ -55,16 +55,6 @@ pub fn story(random: Random, length: usize) -> Vec<Cycle> {
     bus.cycles
 }
 
-/// A good trace: mostly of middle length, some tiny, a few of the longest.
-pub fn capture(mut random: Random) -> Vec<u8> {
-    let length = match random.below(200) {
-        0 => 16_000,
-        1..=16 => random.below(4),
-        _ => random.between(30, 300),
-    };
-    trace(&story(random, length))
-}
-
 pub fn trace(cycles: &[Cycle]) -> Vec<u8> {
     let mut trace = b"MBT\x00\x01".to_vec();
     let count = u16::try_from(cycles.len()).expect("a story is short enough");
