@@ -8,12 +8,13 @@
 
 use std::fmt;
 
-use crate::cycle::Cycle;
-use crate::step::Step;
+use crate::cycle::{Answer, Cycle};
 use crate::unit::{Descriptor, Unit};
 
-/// Runs a script and gives the text it prints.
-pub fn run<R: Step>(script: &str) -> String {
+pub type Step = fn(&mut Unit, &Cycle) -> Answer;
+
+/// Runs a script with a reading's step and gives the text it prints.
+pub fn run(script: &str, step: Step) -> String {
     let mut unit = Unit::power_on();
     let mut text = String::new();
     for line in script.split_terminator('\n') {
@@ -25,7 +26,7 @@ pub fn run<R: Step>(script: &str) -> String {
         } else if let Some((number, descriptor)) = parse_descriptor(line) {
             unit.table[number] = descriptor;
         } else if let Some(cycle) = parse_cycle(line) {
-            text.push_str(&step_line::<R>(&mut unit, &cycle));
+            text.push_str(&step_line(&mut unit, &cycle, step));
         } else {
             text.push_str("?\n");
         }
@@ -35,13 +36,13 @@ pub fn run<R: Step>(script: &str) -> String {
 
 /// The answer, the registers after it, and the descriptor that the cycle
 /// looks at: a command's by SAR as it was before, any other's by segment.
-fn step_line<R: Step>(unit: &mut Unit, cycle: &Cycle) -> String {
+fn step_line(unit: &mut Unit, cycle: &Cycle, step: Step) -> String {
     let number = if cycle.status == 3 {
         unit.sar % 64
     } else {
         cycle.segment % 64
     };
-    let answer = R::step(unit, cycle);
+    let answer = step(unit, cycle);
     let descriptor = unit.table[usize::from(number)];
     format!(
         "{answer} | {} | {number:02X} {descriptor}\n",

@@ -19,8 +19,7 @@ pub trait Text: Step + Layout {
                 line(&mut text, format_args!("MBT 1 {count}"));
                 let mut unit = Self::power_on();
                 for (number, cycle) in Self::cycles(trace).enumerate() {
-                    let answer = Self::step(&mut unit, &cycle);
-                    line(&mut text, format_args!("{number} {answer}"));
+                    record_line(&mut text, number, &Self::step(&mut unit, &cycle));
                 }
             }
         }
@@ -30,6 +29,10 @@ pub trait Text: Step + Layout {
     fn power_on() -> Unit {
         Unit::power_on()
     }
+}
+
+fn record_line(text: &mut Vec<u8>, number: usize, answer: &Answer) {
+    line(text, format_args!("{number} {answer}"));
 }
 
 fn line(text: &mut Vec<u8>, content: fmt::Arguments) {
