@@ -1,0 +1,186 @@
+//! Wrong readings of the checks and of the warning.
+
+use super::wrong;
+use witness::checks::Finding;
+use witness::cycle::Cycle;
+use witness::unit::{attribute, violation, Descriptor};
+use witness::Document01;
+
+wrong! { Checks:
+    LimitExcluded "the block at the limit is outside, upward" {
+        fn outside(descriptor: &Descriptor, cycle: &Cycle) -> bool {
+            let up = !descriptor.has(attribute::DIRW);
+            Document01::outside(descriptor, cycle) || up && cycle.offset == descriptor.limit
+        }
+    }
+    StackLimitExcluded "the block at the limit is outside, downward" {
+        fn outside(descriptor: &Descriptor, cycle: &Cycle) -> bool {
+            let down = descriptor.has(attribute::DIRW);
+            Document01::outside(descriptor, cycle) || down && cycle.offset == descriptor.limit
+        }
+    }
+    StackOfLimitBlocks "a DIRW range is measured as limit + 1 blocks from the top" {
+        fn outside(descriptor: &Descriptor, cycle: &Cycle) -> bool {
+            match descriptor.has(attribute::DIRW) {
+                true => cycle.offset < 0xFF - descriptor.limit,
+                false => Document01::outside(descriptor, cycle),
+            }
+        }
+    }
+    StackUpward "the length check does not look at DIRW" {
+        fn outside(descriptor: &Descriptor, cycle: &Cycle) -> bool {
+            cycle.offset > descriptor.limit
+        }
+    }
+    DmaAnyLength "the length check is not made for DMA" {
+        fn outside(descriptor: &Descriptor, cycle: &Cycle) -> bool {
+            !cycle.dma && Document01::outside(descriptor, cycle)
+        }
+    }
+    FetchAnyLength "the length check is not made for instruction fetches" {
+        fn outside(descriptor: &Descriptor, cycle: &Cycle) -> bool {
+            cycle.status != 0xD && Document01::outside(descriptor, cycle)
+        }
+    }
+    WarnsAtTop "the warning block of a stack is at the top" {
+        fn warns(descriptor: &Descriptor, cycle: &Cycle) -> bool {
+            let limit = 0xFF;
+            Document01::warns(&Descriptor { limit, ..*descriptor }, cycle)
+        }
+    }
+    WarnsAbove "the warning block is the one above the limit" {
+        fn warns(descriptor: &Descriptor, cycle: &Cycle) -> bool {
+            let limit = descriptor.limit.wrapping_add(1);
+            Document01::warns(&Descriptor { limit, ..*descriptor }, cycle)
+        }
+    }
+    WarnsReads "a read at a stack's limit warns" {
+        fn warns(descriptor: &Descriptor, cycle: &Cycle) -> bool {
+            Document01::warns(descriptor, &Cycle { read: false, ..*cycle })
+        }
+    }
+    WarnsUpward "a write at the limit warns without DIRW too" {
+        fn warns(descriptor: &Descriptor, cycle: &Cycle) -> bool {
+            let attributes = descriptor.attributes | attribute::DIRW;
+            Document01::warns(&Descriptor { attributes, ..*descriptor }, cycle)
+        }
+    }
+    WarnsInSystem "only system mode warns" {
+        fn warns(descriptor: &Descriptor, cycle: &Cycle) -> bool {
+            !cycle.normal && Document01::warns(descriptor, cycle)
+        }
+    }
+    WarnsAtStackStatus "only status %9 and %B warn" {
+        fn warns(descriptor: &Descriptor, cycle: &Cycle) -> bool {
+            matches!(cycle.status, 0x9 | 0xB) && Document01::warns(descriptor, cycle)
+        }
+    }
+    WarnsNotInCode "writes at %C and %D do not warn" {
+        fn warns(descriptor: &Descriptor, cycle: &Cycle) -> bool {
+            !matches!(cycle.status, 0xC | 0xD) && Document01::warns(descriptor, cycle)
+        }
+    }
+    WarnsDma "a DMA write at a stack's limit is a warning"
+    same "DMA records nothing, and a warning alone changes nothing else" {
+        fn warns(descriptor: &Descriptor, cycle: &Cycle) -> bool {
+            Document01::warns(descriptor, &Cycle { dma: false, ..*cycle })
+        }
+    }
+    WarnsWithViolation "a violation at a stack's limit adds PWW" {
+        fn check(descriptor: &Descriptor, cycle: &Cycle) -> Finding {
+            match Document01::check(descriptor, cycle) {
+                Finding::Violation(flags) if Document01::warns(descriptor, cycle) => {
+                    Finding::Violation(flags | violation::PWW)
+                }
+                finding => finding,
+            }
+        }
+    }
+    OneFlag "only the lowest flag of a violation counts" {
+        fn violation_flags(descriptor: &Descriptor, cycle: &Cycle) -> u8 {
+            let flags = Document01::violation_flags(descriptor, cycle);
+            flags & flags.wrapping_neg()
+        }
+    }
+    FlagsAsAttributes "the VTR has CPUIV and EXCV at the bits of CPUI and EXC, SLV above" {
+        fn violation_flags(descriptor: &Descriptor, cycle: &Cycle) -> u8 {
+            let flags = Document01::violation_flags(descriptor, cycle);
+            let length = if flags & violation::SLV != 0 { 0x10 } else { 0 };
+            flags & 0x03 | (flags & 0x18) >> 1 | length
+        }
+    }
+    ReadOnlyReads "RD forbids reads" {
+        fn read_only(descriptor: &Descriptor, cycle: &Cycle) -> bool {
+            Document01::read_only(descriptor, &Cycle { read: !cycle.read, ..*cycle })
+        }
+    }
+    ReadOnlyNotDma "RD does not bind DMA" {
+        fn read_only(descriptor: &Descriptor, cycle: &Cycle) -> bool {
+            !cycle.dma && Document01::read_only(descriptor, cycle)
+        }
+    }
+    ReadOnlyNotSystem "RD does not bind system mode" {
+        fn read_only(descriptor: &Descriptor, cycle: &Cycle) -> bool {
+            cycle.normal && Document01::read_only(descriptor, cycle)
+        }
+    }
+    SystemReversed "SYS forbids system mode" {
+        fn system_only(descriptor: &Descriptor, cycle: &Cycle) -> bool {
+            Document01::system_only(descriptor, &Cycle { normal: !cycle.normal, ..*cycle })
+        }
+    }
+    SystemNotDma "SYS does not bind DMA" {
+        fn system_only(descriptor: &Descriptor, cycle: &Cycle) -> bool {
+            !cycle.dma && Document01::system_only(descriptor, cycle)
+        }
+    }
+    ExecuteFirstWord "EXC allows status %D alone" {
+        fn execute_only(descriptor: &Descriptor, cycle: &Cycle) -> bool {
+            descriptor.has(attribute::EXC) && cycle.status != 0xD
+        }
+    }
+    ExecuteLaterWords "EXC allows status %C alone" {
+        fn execute_only(descriptor: &Descriptor, cycle: &Cycle) -> bool {
+            descriptor.has(attribute::EXC) && cycle.status != 0xC
+        }
+    }
+    ExecuteNotWrites "EXC forbids writes at %C and %D" {
+        fn execute_only(descriptor: &Descriptor, cycle: &Cycle) -> bool {
+            let writes = descriptor.has(attribute::EXC) && cycle.write();
+            writes || Document01::execute_only(descriptor, cycle)
+        }
+    }
+    ExecuteNotDma "EXC does not bind DMA" {
+        fn execute_only(descriptor: &Descriptor, cycle: &Cycle) -> bool {
+            !cycle.dma && Document01::execute_only(descriptor, cycle)
+        }
+    }
+    ExecuteReversed "EXC forbids execution" {
+        fn execute_only(descriptor: &Descriptor, cycle: &Cycle) -> bool {
+            descriptor.has(attribute::EXC) && matches!(cycle.status, 0xC | 0xD)
+        }
+    }
+    CpuInhibitsAll "CPUI stops DMA as well" {
+        fn cpu_inhibited(descriptor: &Descriptor, _cycle: &Cycle) -> bool {
+            descriptor.has(attribute::CPUI)
+        }
+    }
+    CpuInhibitNotSystem "CPUI does not bind system mode" {
+        fn cpu_inhibited(descriptor: &Descriptor, cycle: &Cycle) -> bool {
+            cycle.normal && Document01::cpu_inhibited(descriptor, cycle)
+        }
+    }
+    DmaInhibitsAll "DMAI stops the CPU as well" {
+        fn dma_inhibited(descriptor: &Descriptor, _cycle: &Cycle) -> bool {
+            descriptor.has(attribute::DMAI)
+        }
+    }
+    InhibitsSwapped "CPUI stops DMA and DMAI the CPU" {
+        fn cpu_inhibited(descriptor: &Descriptor, cycle: &Cycle) -> bool {
+            descriptor.has(attribute::DMAI) && !cycle.dma
+        }
+        fn dma_inhibited(descriptor: &Descriptor, cycle: &Cycle) -> bool {
+            descriptor.has(attribute::CPUI) && cycle.dma
+        }
+    }
+}

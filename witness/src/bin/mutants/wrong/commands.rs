@@ -1,0 +1,476 @@
+//! Wrong readings of the commands.
+
+use super::wrong;
+use witness::commands::{code, Commands, Listing};
+use witness::cycle::Cycle;
+use witness::unit::{attribute, mode, violation, Descriptor, Unit};
+use witness::Document01;
+
+/// Clear VTR with something more; other writes as the paper has them.
+fn clear_vtr_and(unit: &mut Unit, code: u8, data: u8, more: fn(&mut Unit)) {
+    Document01::write_register(unit, code, data);
+    if code == code::CLEAR_VTR {
+        more(unit);
+    }
+}
+
+wrong! { Commands:
+    ListsTwelve "%12 is listed, as a clear command" {
+        fn listing(code: u8) -> Listing {
+            Document01::listing(if code == 0x12 { code::CLEAR_VTR } else { code })
+        }
+        fn write_register(unit: &mut Unit, code: u8, data: u8) {
+            if code != 0x12 {
+                Document01::write_register(unit, code, data);
+            }
+        }
+    }
+    UnlistedIgnored "a write with a code not listed is obeyed and changes nothing" {
+        fn command_refusal(cycle: &Cycle) -> Option<u8> {
+            Document01::command_refusal(cycle).filter(|&number| number != 3 || cycle.read)
+        }
+        fn write_register(unit: &mut Unit, code: u8, data: u8) {
+            if Document01::listing(code) != Listing::NotListed {
+                Document01::write_register(unit, code, data);
+            }
+        }
+    }
+    LowSixBits "only the low six bits of a code count" {
+        fn command_refusal(cycle: &Cycle) -> Option<u8> {
+            Document01::command_refusal(&Cycle { offset: cycle.offset & 0x3F, ..*cycle })
+        }
+        fn command(unit: &mut Unit, cycle: &Cycle) -> Option<u8> {
+            Document01::command(unit, &Cycle { offset: cycle.offset & 0x3F, ..*cycle })
+        }
+    }
+    UnlistedReads "a read with a code not listed is refused 4" {
+        fn command_refusal(cycle: &Cycle) -> Option<u8> {
+            let refusal = Document01::command_refusal(cycle);
+            refusal.map(|number| if cycle.read { 4 } else { number })
+        }
+    }
+    WrongWayIsThree "a command in the wrong direction is refused 3" {
+        fn command_refusal(cycle: &Cycle) -> Option<u8> {
+            Document01::command_refusal(cycle).and(Some(3))
+        }
+    }
+    ReadOnlyIgnores "a write to a read-only register is obeyed and changes nothing" {
+        fn command_refusal(cycle: &Cycle) -> Option<u8> {
+            let read_only = matches!(cycle.offset, code::VTR..=code::IOFF);
+            Document01::command_refusal(cycle).filter(|_| !read_only)
+        }
+        fn write_register(unit: &mut Unit, code: u8, data: u8) {
+            if !matches!(code, code::VTR..=code::IOFF) {
+                Document01::write_register(unit, code, data);
+            }
+        }
+    }
+    ResetReads "software reset may be read" {
+        fn command_refusal(cycle: &Cycle) -> Option<u8> {
+            Document01::command_refusal(cycle).filter(|_| cycle.offset != code::RESET)
+        }
+        fn read_register(unit: &Unit, code: u8) -> u8 {
+            match code {
+                code::RESET => 0,
+                _ => Document01::read_register(unit, code),
+            }
+        }
+    }
+    SetReads "a read of a set or clear command works as its write does" {
+        fn command_refusal(cycle: &Cycle) -> Option<u8> {
+            let one_way = Document01::listing(cycle.offset) == Listing::WriteOnly;
+            Document01::command_refusal(cycle).filter(|_| !one_way)
+        }
+        fn command(unit: &mut Unit, cycle: &Cycle) -> Option<u8> {
+            let one_way = Document01::listing(cycle.offset) == Listing::WriteOnly;
+            Document01::command(unit, &Cycle { read: cycle.read && !one_way, ..*cycle })
+        }
+    }
+    DscrReadOnly "DSCR can only be read" {
+        fn listing(code: u8) -> Listing {
+            Document01::listing(if code == code::DSCR { code::VTR } else { code })
+        }
+    }
+    SarKeepsSeven "SAR keeps seven bits" {
+        fn write_register(unit: &mut Unit, code: u8, data: u8) {
+            Document01::write_register(unit, code, data);
+            if code == code::SAR {
+                unit.sar = data & 0x7F;
+            }
+        }
+    }
+    SarClamps "SAR above 63 is written as 63" {
+        fn write_register(unit: &mut Unit, code: u8, data: u8) {
+            Document01::write_register(unit, code, data);
+            if code == code::SAR {
+                unit.sar = data.min(63);
+            }
+        }
+    }
+    SarClearsDscr "a write of SAR clears DSCR" {
+        fn write_register(unit: &mut Unit, code: u8, data: u8) {
+            Document01::write_register(unit, code, data);
+            if code == code::SAR {
+                unit.dscr = 0;
+            }
+        }
+    }
+    DscrKeepsEight "DSCR keeps all bits" {
+        fn write_register(unit: &mut Unit, code: u8, data: u8) {
+            Document01::write_register(unit, code, data);
+            if code == code::DSCR {
+                unit.dscr = data;
+            }
+        }
+    }
+    SoftwareResetLikeHardware "software reset leaves MR %80, as a reset with select on" {
+        fn software_reset(unit: &mut Unit) {
+            Document01::software_reset(unit);
+            unit.mr = mode::MSEN;
+        }
+    }
+    SoftwareResetLeavesMr "software reset leaves MR" {
+        fn software_reset(unit: &mut Unit) {
+            let mr = unit.mr;
+            Document01::software_reset(unit);
+            unit.mr = mr;
+        }
+    }
+    SoftwareResetLeavesVtr "software reset leaves the VTR" {
+        fn software_reset(unit: &mut Unit) {
+            let vtr = unit.vtr;
+            Document01::software_reset(unit);
+            unit.vtr = vtr;
+        }
+    }
+    SoftwareResetLeavesDscr "software reset leaves DSCR" {
+        fn software_reset(unit: &mut Unit) {
+            let dscr = unit.dscr;
+            Document01::software_reset(unit);
+            unit.dscr = dscr;
+        }
+    }
+    SoftwareResetLeavesRequest "software reset leaves request and await" {
+        fn software_reset(unit: &mut Unit) {
+            let (request, awaits) = (unit.request, unit.awaits);
+            Document01::software_reset(unit);
+            (unit.request, unit.awaits) = (request, awaits);
+        }
+    }
+    SoftwareResetLeavesHold "software reset leaves hold" {
+        fn software_reset(unit: &mut Unit) {
+            let hold = unit.hold;
+            Document01::software_reset(unit);
+            unit.hold = hold;
+        }
+    }
+    SoftwareResetClearsSar "software reset clears SAR" {
+        fn software_reset(unit: &mut Unit) {
+            Document01::software_reset(unit);
+            unit.sar = 0;
+        }
+    }
+    ClearVtrRequest "clear VTR takes the request back" {
+        fn write_register(unit: &mut Unit, code: u8, data: u8) {
+            clear_vtr_and(unit, code, data, |unit| unit.request = false);
+        }
+    }
+    ClearVtrAwait "clear VTR calls the aborted fetch off" {
+        fn write_register(unit: &mut Unit, code: u8, data: u8) {
+            clear_vtr_and(unit, code, data, |unit| unit.awaits = false);
+        }
+    }
+    ClearVtrOwn "clear VTR clears own" {
+        fn write_register(unit: &mut Unit, code: u8, data: u8) {
+            clear_vtr_and(unit, code, data, |unit| unit.own = false);
+        }
+    }
+    ClearVtrHold "clear VTR clears hold" {
+        fn write_register(unit: &mut Unit, code: u8, data: u8) {
+            clear_vtr_and(unit, code, data, |unit| unit.hold = false);
+        }
+    }
+    ClearVtrPrimary "clear VTR leaves SWW and FATL" {
+        fn write_register(unit: &mut Unit, code: u8, data: u8) {
+            let kept = unit.vtr & !violation::PRIMARY;
+            Document01::write_register(unit, code, data);
+            if code == code::CLEAR_VTR {
+                unit.vtr = kept;
+            }
+        }
+    }
+    ClearSwwPww "clear SWW clears PWW too" {
+        fn write_register(unit: &mut Unit, code: u8, data: u8) {
+            Document01::write_register(unit, code, data);
+            if code == code::CLEAR_SWW {
+                unit.vtr &= !violation::PWW;
+            }
+        }
+    }
+    ClearSwwRequest "clear SWW takes the request back" {
+        fn write_register(unit: &mut Unit, code: u8, data: u8) {
+            Document01::write_register(unit, code, data);
+            if code == code::CLEAR_SWW {
+                unit.request = false;
+            }
+        }
+    }
+    ClearFatlRequest "clear FATL takes the request back" {
+        fn write_register(unit: &mut Unit, code: u8, data: u8) {
+            Document01::write_register(unit, code, data);
+            if code == code::CLEAR_FATL {
+                unit.request = false;
+            }
+        }
+    }
+    ClearFatlAll "clear FATL clears SWW too" {
+        fn write_register(unit: &mut Unit, code: u8, data: u8) {
+            Document01::write_register(unit, code, data);
+            if code == code::CLEAR_FATL {
+                unit.vtr &= !violation::SWW;
+            }
+        }
+    }
+    ClearsSwapped "the codes of clear SWW and clear FATL are swapped" {
+        fn write_register(unit: &mut Unit, code: u8, data: u8) {
+            let code = match code {
+                code::CLEAR_SWW => code::CLEAR_FATL,
+                code::CLEAR_FATL => code::CLEAR_SWW,
+                code => code,
+            };
+            Document01::write_register(unit, code, data);
+        }
+    }
+    SetAllAtSar "set all CPUI and set all DMAI set one, at SAR" {
+        fn set_all(unit: &mut Unit, flag: u8) {
+            unit.table[usize::from(unit.sar)].attributes |= flag;
+        }
+    }
+    SetAllReplaces "set all CPUI and set all DMAI write the whole attribute byte" {
+        fn set_all(unit: &mut Unit, flag: u8) {
+            for descriptor in &mut unit.table {
+                descriptor.attributes = flag;
+            }
+        }
+    }
+    SetAllUsed "set all CPUI and set all DMAI set used descriptors only" {
+        fn set_all(unit: &mut Unit, flag: u8) {
+            for descriptor in &mut unit.table {
+                if descriptor.has(attribute::REF) {
+                    descriptor.attributes |= flag;
+                }
+            }
+        }
+    }
+    SetsSwapped "the codes of set all CPUI and set all DMAI are swapped" {
+        fn set_all(unit: &mut Unit, flag: u8) {
+            Document01::set_all(unit, flag ^ (attribute::CPUI | attribute::DMAI));
+        }
+    }
+    SetTakesData "set and clear commands work only with a data byte other than 0" {
+        fn write_register(unit: &mut Unit, code: u8, data: u8) {
+            if data != 0 || Document01::listing(code) == Listing::Both {
+                Document01::write_register(unit, code, data);
+            }
+        }
+    }
+    BaseLowFirst "the base moves low byte first" {
+        fn byte_number(code: u8, dscr: u8) -> u8 {
+            match Document01::byte_number(code, dscr) {
+                0 => 1,
+                1 => 0,
+                number => number,
+            }
+        }
+    }
+    LimitLast "byte 2 is the attributes and byte 3 the limit" {
+        fn byte_number(code: u8, dscr: u8) -> u8 {
+            match Document01::byte_number(code, dscr) {
+                2 => 3,
+                3 => 2,
+                number => number,
+            }
+        }
+    }
+    BaseStaysInBase "%08 and %0C with DSCR 2 or 3 move a byte of the base" {
+        fn byte_number(code: u8, dscr: u8) -> u8 {
+            match code % 4 {
+                0 => dscr & 1,
+                _ => Document01::byte_number(code, dscr),
+            }
+        }
+    }
+    BaseGoesOn "%08 and %0C move DSCR up modulo 4" {
+        fn next_dscr(code: u8, dscr: u8) -> u8 {
+            match code % 4 {
+                0 => (dscr + 1) % 4,
+                _ => Document01::next_dscr(code, dscr),
+            }
+        }
+    }
+    BaseAlternates "%08 and %0C turn bit 0 of DSCR round" {
+        fn next_dscr(code: u8, dscr: u8) -> u8 {
+            match code % 4 {
+                0 => dscr ^ 1,
+                _ => Document01::next_dscr(code, dscr),
+            }
+        }
+    }
+    SingleLeavesDscr "%09, %0A, %0D and %0E leave DSCR as it was" {
+        fn next_dscr(code: u8, dscr: u8) -> u8 {
+            match code % 4 {
+                1 | 2 => dscr,
+                _ => Document01::next_dscr(code, dscr),
+            }
+        }
+    }
+    SingleStepsFromZero "%0D and %0E step SAR only if DSCR was 0" {
+        fn advance(unit: &mut Unit, cycle: &Cycle) {
+            let stays = matches!(cycle.offset, 0x0D | 0x0E) && unit.dscr != 0;
+            let sar = unit.sar;
+            Document01::advance(unit, cycle);
+            if stays {
+                unit.sar = sar;
+            }
+        }
+    }
+    SingleByDscr "%09, %0A, %0D and %0E use byte DSCR" {
+        fn byte_number(_code: u8, dscr: u8) -> u8 {
+            dscr
+        }
+    }
+    WholeStops "%0B and %0F stop at byte 3" {
+        fn next_dscr(code: u8, dscr: u8) -> u8 {
+            match code % 4 {
+                3 => (dscr + 1).min(3),
+                _ => Document01::next_dscr(code, dscr),
+            }
+        }
+    }
+    ReadsStay "reads of a descriptor move neither DSCR nor SAR" {
+        fn advance(unit: &mut Unit, cycle: &Cycle) {
+            if !cycle.read {
+                Document01::advance(unit, cycle);
+            }
+        }
+    }
+    ReadsDoNotStep "reads of a descriptor do not step SAR" {
+        fn advance(unit: &mut Unit, cycle: &Cycle) {
+            let sar = unit.sar;
+            Document01::advance(unit, cycle);
+            if cycle.read {
+                unit.sar = sar;
+            }
+        }
+    }
+    StepsEachByte "the stepping forms step SAR at every byte" {
+        fn advance(unit: &mut Unit, cycle: &Cycle) {
+            unit.dscr = Document01::next_dscr(cycle.offset, unit.dscr);
+            if cycle.offset >= code::STEPPING {
+                unit.sar = (unit.sar + 1) % 64;
+            }
+        }
+    }
+    StepsBeyond "SAR steps from 63 to 64" {
+        fn advance(unit: &mut Unit, cycle: &Cycle) {
+            let last = unit.sar == 63;
+            Document01::advance(unit, cycle);
+            if last && unit.sar == 0 {
+                unit.sar = 64;
+            }
+        }
+    }
+    NeverSteps "the stepping forms do not step" {
+        fn advance(unit: &mut Unit, cycle: &Cycle) {
+            unit.dscr = Document01::next_dscr(cycle.offset, unit.dscr);
+        }
+    }
+    ReadsAfterStep "a stepping read drives the byte found after stepping" {
+        fn descriptor_command(unit: &mut Unit, cycle: &Cycle) -> Option<u8> {
+            let driven = Document01::descriptor_command(unit, cycle);
+            let number = Document01::byte_number(cycle.offset, unit.dscr);
+            let byte = Document01::read_byte(&unit.table[usize::from(unit.sar)], number);
+            driven.and(Some(byte))
+        }
+    }
+    AtSegment "descriptor commands work on the cycle's segment" {
+        fn descriptor_command(unit: &mut Unit, cycle: &Cycle) -> Option<u8> {
+            let sar = std::mem::replace(&mut unit.sar, cycle.entry());
+            let driven = Document01::descriptor_command(unit, cycle);
+            let stepped = unit.sar != cycle.entry();
+            unit.sar = if stepped { (sar + 1) % 64 } else { sar };
+            driven
+        }
+    }
+    WritesDrive "a write drives its data byte" {
+        fn command(unit: &mut Unit, cycle: &Cycle) -> Option<u8> {
+            Document01::command(unit, cycle).or(Some(cycle.data))
+        }
+    }
+    AttributesKeepMarks "a write of attributes leaves REF and CHG" {
+        fn write_byte(descriptor: &mut Descriptor, number: u8, data: u8) {
+            let marks = descriptor.attributes & (attribute::REF | attribute::CHG);
+            Document01::write_byte(descriptor, number, data);
+            if number == 3 {
+                descriptor.attributes = data & 0x3F | marks;
+            }
+        }
+    }
+    AttributesClearMarks "a write of attributes clears REF and CHG" {
+        fn write_byte(descriptor: &mut Descriptor, number: u8, data: u8) {
+            Document01::write_byte(descriptor, number, data);
+            if number == 3 {
+                descriptor.attributes = data & 0x3F;
+            }
+        }
+    }
+    ReadClearsVtr "a read of the VTR clears it" {
+        fn command(unit: &mut Unit, cycle: &Cycle) -> Option<u8> {
+            let driven = Document01::command(unit, cycle);
+            if cycle.offset == code::VTR {
+                unit.vtr = 0;
+            }
+            driven
+        }
+    }
+    ReadsOfVsnShowSeven "a read of VSN shows the range bit of MR as bit 6" {
+        fn read_register(unit: &Unit, code: u8) -> u8 {
+            let range = if unit.mode(mode::URS) { 0x40 } else { 0 };
+            match code {
+                code::VSN => unit.vsn | range,
+                _ => Document01::read_register(unit, code),
+            }
+        }
+    }
+    RegistersSwapped "%03 is VOFF and %04 is VSN" {
+        fn read_register(unit: &Unit, code: u8) -> u8 {
+            match code {
+                code::VSN => unit.voff,
+                code::VOFF => unit.vsn,
+                _ => Document01::read_register(unit, code),
+            }
+        }
+    }
+    ModeClearsNotes "a write of MR clears hold" {
+        fn write_register(unit: &mut Unit, code: u8, data: u8) {
+            Document01::write_register(unit, code, data);
+            if code == code::MR {
+                unit.hold = false;
+            }
+        }
+    }
+    CommandEndsHold "any command ends the hold" {
+        fn command(unit: &mut Unit, cycle: &Cycle) -> Option<u8> {
+            unit.hold = false;
+            Document01::command(unit, cycle)
+        }
+    }
+    CommandsNeedMsen "with MSEN clear only MR can be written" {
+        fn command(unit: &mut Unit, cycle: &Cycle) -> Option<u8> {
+            match cycle.read || cycle.offset == code::MR || unit.mode(mode::MSEN) {
+                true => Document01::command(unit, cycle),
+                false => None,
+            }
+        }
+    }
+}

@@ -1,0 +1,398 @@
+//! Wrong readings of the recording rows.
+
+use super::wrong;
+use witness::checks::Finding;
+use witness::cycle::Cycle;
+use witness::unit::{violation, Unit};
+use witness::Document01;
+
+fn primary(unit: &Unit) -> bool {
+    unit.vtr & violation::PRIMARY != 0
+}
+
+fn orphan(unit: &Unit) -> bool {
+    unit.vtr != 0 && !primary(unit)
+}
+
+/// Neither an own entry nor a first one.
+fn later(unit: &Unit) -> bool {
+    primary(unit) && !unit.own
+}
+
+wrong! { Recording:
+    FatalInOne "FATL is set by two violations of one instruction" {
+        fn further_entry(unit: &mut Unit, _cycle: &Cycle, _flags: u8) {
+            Document01::fatal(unit);
+        }
+    }
+    OwnWarningLost "a warning of the own instruction adds nothing" {
+        fn further_entry(unit: &mut Unit, _cycle: &Cycle, flags: u8) {
+            unit.vtr |= flags & !violation::PWW;
+        }
+    }
+    OwnSystemWarning "a system stack warning of the own instruction adds SWW" {
+        fn further_entry(unit: &mut Unit, cycle: &Cycle, flags: u8) {
+            let system = flags == violation::PWW && Document01::system_stack(cycle);
+            unit.vtr |= if system { violation::SWW } else { flags };
+        }
+    }
+    OwnRequests "a further entry of the own instruction requests" {
+        fn further_entry(unit: &mut Unit, cycle: &Cycle, flags: u8) {
+            Document01::further_entry(unit, cycle, flags);
+            Document01::trap(unit);
+        }
+    }
+    OwnStores "a further entry of the own instruction stores its address" {
+        fn further_entry(unit: &mut Unit, cycle: &Cycle, flags: u8) {
+            Document01::further_entry(unit, cycle, flags);
+            unit.vsn = cycle.entry();
+            unit.voff = cycle.offset;
+            unit.bcsr = cycle.bus_status();
+        }
+    }
+    OwnFlagsLost "a further entry of the own instruction adds no flags" {
+        fn further_entry(_unit: &mut Unit, _cycle: &Cycle, _flags: u8) {}
+    }
+    OwnReplacesPww "a violation of the own instruction takes the place of PWW" {
+        fn further_entry(unit: &mut Unit, cycle: &Cycle, flags: u8) {
+            if flags != violation::PWW {
+                unit.vtr &= !violation::PWW;
+            }
+            Document01::further_entry(unit, cycle, flags);
+        }
+    }
+    OwnSetsNoHold "a violation after the own instruction's first entry sets no hold" {
+        fn record(unit: &mut Unit, cycle: &Cycle, finding: Finding) {
+            let (own, hold) = (primary(unit) && unit.own, unit.hold);
+            Document01::record(unit, cycle, finding);
+            if own {
+                unit.hold = hold;
+            }
+        }
+    }
+    FatalSetsNoHold "a violation that only sets FATL sets no hold" {
+        fn record(unit: &mut Unit, cycle: &Cycle, finding: Finding) {
+            let (later, hold) = (later(unit), unit.hold);
+            Document01::record(unit, cycle, finding);
+            if later {
+                unit.hold = hold;
+            }
+        }
+    }
+    FatalOwns "a fatal violation sets own" {
+        fn fatal(unit: &mut Unit) {
+            Document01::fatal(unit);
+            unit.own = true;
+        }
+    }
+    SecondOwns "a second warning sets own" {
+        fn second_warning(unit: &mut Unit) {
+            Document01::second_warning(unit);
+            unit.own = true;
+        }
+    }
+    WarningOwnsNot "a first warning does not set own" {
+        fn first_entry(unit: &mut Unit, cycle: &Cycle, flags: u8) {
+            let own = unit.own;
+            Document01::first_entry(unit, cycle, flags);
+            if flags == violation::PWW {
+                unit.own = own;
+            }
+        }
+    }
+    WarningHolds "a warning sets hold" {
+        fn record(unit: &mut Unit, cycle: &Cycle, finding: Finding) {
+            Document01::record(unit, cycle, finding);
+            unit.hold |= finding == Finding::Warning;
+        }
+    }
+    FatalWarningHolds "a warning that sets FATL sets hold, as a violation does" {
+        fn record(unit: &mut Unit, cycle: &Cycle, finding: Finding) {
+            let fatal = later(unit) && !Document01::system_stack(cycle);
+            Document01::record(unit, cycle, finding);
+            unit.hold |= fatal && finding == Finding::Warning;
+        }
+    }
+    HeldNoWarning "a write suppressed by hold does not warn" {
+        fn record(unit: &mut Unit, cycle: &Cycle, finding: Finding) {
+            if !(finding == Finding::Warning && unit.hold) {
+                Document01::record(unit, cycle, finding);
+            }
+        }
+    }
+    AwaitOnce "await is not set again while a request stands" {
+        fn trap(unit: &mut Unit) {
+            unit.awaits |= !unit.request;
+            unit.request = true;
+        }
+    }
+    NoAwait "a trap does not await an aborted fetch" {
+        fn trap(unit: &mut Unit) {
+            unit.request = true;
+        }
+    }
+    WarningNoTrap "a first warning does not request" {
+        fn first_entry(unit: &mut Unit, cycle: &Cycle, flags: u8) {
+            let (request, awaits) = (unit.request, unit.awaits);
+            Document01::first_entry(unit, cycle, flags);
+            if flags == violation::PWW {
+                (unit.request, unit.awaits) = (request, awaits);
+            }
+        }
+    }
+    WarningStoresNothing "a first warning stores no address" {
+        fn first_entry(unit: &mut Unit, cycle: &Cycle, flags: u8) {
+            let (vsn, voff, bcsr) = (unit.vsn, unit.voff, unit.bcsr);
+            Document01::first_entry(unit, cycle, flags);
+            if flags == violation::PWW {
+                (unit.vsn, unit.voff, unit.bcsr) = (vsn, voff, bcsr);
+            }
+        }
+    }
+    FirstReplaces "a first entry replaces SWW and FATL" {
+        fn first_entry(unit: &mut Unit, cycle: &Cycle, flags: u8) {
+            Document01::first_entry(unit, cycle, flags);
+            unit.vtr = flags;
+        }
+    }
+    OrphanLater "an orphan's next entry takes the rows of a standing flag" {
+        fn record(unit: &mut Unit, cycle: &Cycle, finding: Finding) {
+            if orphan(unit) && finding != Finding::Clean {
+                let second = finding == Finding::Warning && Document01::system_stack(cycle);
+                match second {
+                    true => Document01::second_warning(unit),
+                    false => Document01::fatal(unit),
+                }
+                unit.hold |= finding != Finding::Warning;
+            } else {
+                Document01::record(unit, cycle, finding);
+            }
+        }
+    }
+    OrphanRequests "an orphan with FATL requests" {
+        fn first_entry(unit: &mut Unit, cycle: &Cycle, flags: u8) {
+            Document01::first_entry(unit, cycle, flags);
+            Document01::trap(unit);
+        }
+    }
+    OrphanSilent "an orphan of SWW alone does not request" {
+        fn first_entry(unit: &mut Unit, cycle: &Cycle, flags: u8) {
+            let (orphan, request, awaits) = (orphan(unit), unit.request, unit.awaits);
+            Document01::first_entry(unit, cycle, flags);
+            if orphan {
+                (unit.request, unit.awaits) = (request, awaits);
+            }
+        }
+    }
+    OrphanClears "an orphan with FATL clears request and await" {
+        fn first_entry(unit: &mut Unit, cycle: &Cycle, flags: u8) {
+            let fatal = unit.vtr & violation::FATL != 0;
+            Document01::first_entry(unit, cycle, flags);
+            if fatal {
+                (unit.request, unit.awaits) = (false, false);
+            }
+        }
+    }
+    OrphanAwaits "an orphan with FATL sets await without a request" {
+        fn first_entry(unit: &mut Unit, cycle: &Cycle, flags: u8) {
+            Document01::first_entry(unit, cycle, flags);
+            unit.awaits = true;
+        }
+    }
+    OrphanSecond "a system stack warning on an orphan gives SWW" {
+        fn first_entry(unit: &mut Unit, cycle: &Cycle, flags: u8) {
+            let second = orphan(unit)
+                && flags == violation::PWW
+                && Document01::system_stack(cycle);
+            Document01::first_entry(unit, cycle, if second { violation::SWW } else { flags });
+        }
+    }
+    OrphanNoOwn "an orphan's first entry does not set own" {
+        fn first_entry(unit: &mut Unit, cycle: &Cycle, flags: u8) {
+            let (orphan, own) = (orphan(unit), unit.own);
+            Document01::first_entry(unit, cycle, flags);
+            if orphan {
+                unit.own = own;
+            }
+        }
+    }
+    OrphanJudgedAfter "an orphan's FATL is judged after the cycle"
+    same "the first row adds no FATL, so it stands after exactly if it stood before" {
+        fn first_entry(unit: &mut Unit, cycle: &Cycle, flags: u8) {
+            let (request, awaits) = (unit.request, unit.awaits);
+            Document01::first_entry(unit, cycle, flags);
+            match unit.vtr & violation::FATL {
+                0 => Document01::trap(unit),
+                _ => (unit.request, unit.awaits) = (request, awaits),
+            }
+        }
+    }
+    SystemStackB "a warning at %B in system mode is of the system stack too" {
+        fn system_stack(cycle: &Cycle) -> bool {
+            !cycle.normal && matches!(cycle.status, 0x9 | 0xB)
+        }
+    }
+    SystemStackAny "every warning in system mode is of the system stack" {
+        fn system_stack(cycle: &Cycle) -> bool {
+            !cycle.normal
+        }
+    }
+    SystemStackNormal "a warning at %9 in normal mode is of the system stack too" {
+        fn system_stack(cycle: &Cycle) -> bool {
+            cycle.status == 0x9
+        }
+    }
+    SystemStackNever "a second warning always sets FATL" {
+        fn system_stack(_cycle: &Cycle) -> bool {
+            false
+        }
+    }
+    ThirdFatal "a system stack warning with SWW standing sets FATL" {
+        fn second_warning(unit: &mut Unit) {
+            match unit.vtr & violation::SWW {
+                0 => Document01::second_warning(unit),
+                _ => Document01::fatal(unit),
+            }
+        }
+    }
+    ThirdRequests "a system stack warning with SWW standing requests again" {
+        fn second_warning(unit: &mut Unit) {
+            if unit.vtr & (violation::SWW | violation::FATL) == violation::SWW {
+                Document01::trap(unit);
+            }
+            Document01::second_warning(unit);
+        }
+    }
+    ThirdClears "a system stack warning with SWW standing takes the request back" {
+        fn second_warning(unit: &mut Unit) {
+            if unit.vtr & violation::SWW != 0 {
+                unit.request = false;
+            }
+            Document01::second_warning(unit);
+        }
+    }
+    SecondNotFatal "SWW is not set while FATL stands" {
+        fn second_warning(unit: &mut Unit) {
+            if unit.vtr & violation::FATL == 0 {
+                Document01::second_warning(unit);
+            }
+        }
+    }
+    SecondAlways "SWW requests while FATL stands too" {
+        fn second_warning(unit: &mut Unit) {
+            if unit.vtr & violation::SWW == 0 {
+                Document01::trap(unit);
+            }
+            Document01::second_warning(unit);
+        }
+    }
+    SecondNever "SWW does not request" {
+        fn second_warning(unit: &mut Unit) {
+            unit.vtr |= violation::SWW;
+        }
+    }
+    SecondNoAwait "SWW requests without an aborted fetch" {
+        fn second_warning(unit: &mut Unit) {
+            let awaits = unit.awaits;
+            Document01::second_warning(unit);
+            unit.awaits = awaits;
+        }
+    }
+    SecondForPwwOnly "SWW is set only if PWW stands" {
+        fn record(unit: &mut Unit, cycle: &Cycle, finding: Finding) {
+            let system = finding == Finding::Warning && Document01::system_stack(cycle);
+            if later(unit) && system && unit.vtr & violation::PWW == 0 {
+                Document01::fatal(unit);
+            } else {
+                Document01::record(unit, cycle, finding);
+            }
+        }
+    }
+    FatalAgain "FATL requests again while it stands" {
+        fn fatal(unit: &mut Unit) {
+            unit.vtr |= violation::FATL;
+            Document01::trap(unit);
+        }
+    }
+    FatalSilent "FATL does not request" {
+        fn fatal(unit: &mut Unit) {
+            unit.vtr |= violation::FATL;
+        }
+    }
+    FatalNoAwait "FATL requests without an aborted fetch" {
+        fn fatal(unit: &mut Unit) {
+            let awaits = unit.awaits;
+            Document01::fatal(unit);
+            unit.awaits = awaits;
+        }
+    }
+    FatalNotByWarning "a warning never sets FATL" {
+        fn record(unit: &mut Unit, cycle: &Cycle, finding: Finding) {
+            let system = Document01::system_stack(cycle);
+            if !(finding == Finding::Warning && later(unit) && !system) {
+                Document01::record(unit, cycle, finding);
+            }
+        }
+    }
+    FatalNotAtStack "a violation at the system stack sets no FATL" {
+        fn record(unit: &mut Unit, cycle: &Cycle, finding: Finding) {
+            let stood = unit.clone();
+            Document01::record(unit, cycle, finding);
+            if later(&stood) && finding != Finding::Warning && Document01::system_stack(cycle) {
+                unit.vtr = stood.vtr;
+                (unit.request, unit.awaits) = (stood.request, stood.awaits);
+            }
+        }
+    }
+    FatalAddsFlags "a fatal violation adds its own flags" {
+        fn record(unit: &mut Unit, cycle: &Cycle, finding: Finding) {
+            let later = later(unit);
+            Document01::record(unit, cycle, finding);
+            if let (true, Finding::Violation(flags)) = (later, finding) {
+                unit.vtr |= flags;
+            }
+        }
+    }
+    FatalStores "a fatal violation stores its address" {
+        fn record(unit: &mut Unit, cycle: &Cycle, finding: Finding) {
+            let later = later(unit);
+            Document01::record(unit, cycle, finding);
+            if later && finding != Finding::Clean {
+                unit.vsn = cycle.entry();
+                unit.voff = cycle.offset;
+                unit.bcsr = cycle.bus_status();
+            }
+        }
+    }
+    VsnSevenBits "VSN keeps seven bits" {
+        fn first_entry(unit: &mut Unit, cycle: &Cycle, flags: u8) {
+            Document01::first_entry(unit, cycle, flags);
+            unit.vsn = cycle.segment;
+        }
+    }
+    BcsrWriteBit "BCSR bit 4 is set for a write" {
+        fn first_entry(unit: &mut Unit, cycle: &Cycle, flags: u8) {
+            Document01::first_entry(unit, cycle, flags);
+            unit.bcsr ^= 0x10;
+        }
+    }
+    BcsrSystemBit "BCSR bit 5 is set for system mode" {
+        fn first_entry(unit: &mut Unit, cycle: &Cycle, flags: u8) {
+            Document01::first_entry(unit, cycle, flags);
+            unit.bcsr ^= 0x20;
+        }
+    }
+    BcsrStatusOnly "BCSR keeps the status alone" {
+        fn first_entry(unit: &mut Unit, cycle: &Cycle, flags: u8) {
+            Document01::first_entry(unit, cycle, flags);
+            unit.bcsr &= 0x0F;
+        }
+    }
+    VoffPhysical "VOFF keeps the low byte of base plus offset" {
+        fn first_entry(unit: &mut Unit, cycle: &Cycle, flags: u8) {
+            Document01::first_entry(unit, cycle, flags);
+            let base = unit.table[usize::from(cycle.entry())].base;
+            unit.voff = cycle.offset.wrapping_add(base.to_be_bytes()[1]);
+        }
+    }
+}

@@ -1,0 +1,443 @@
+//! Wrong readings of the refusals, of which cycle is what, of reset and of
+//! acknowledge.
+
+use super::wrong;
+use witness::cycle::{Answer, Cycle, Kind};
+use witness::step::{Class, Step};
+use witness::unit::{mode, Descriptor, Unit};
+use witness::Document01;
+
+/// The right class, asked of a cycle changed by a wrong reading.
+fn class(cycle: Cycle) -> Class {
+    Document01::class(&cycle)
+}
+
+fn step_if_whole(unit: &mut Unit, cycle: &Cycle, number: u8) -> Answer {
+    let answer = Document01::step(unit, cycle);
+    match answer.kind {
+        Kind::Refused(2) => Answer::quiet(Kind::Refused(number), unit.request),
+        _ => answer,
+    }
+}
+
+wrong! { Step:
+    ResetMends "a reset cycle is accepted by a damaged unit" {
+        fn refusal(unit: &Unit, cycle: &Cycle) -> Option<u8> {
+            Document01::refusal(unit, cycle).filter(|&number| number != 2 || !cycle.reset)
+        }
+    }
+    IgnoredByDamaged "a damaged unit ignores what it always ignores, without a refusal" {
+        fn refusal(unit: &Unit, cycle: &Cycle) -> Option<u8> {
+            let ignored = class(*cycle) == Class::Ignored && !Document01::out_of_range(cycle);
+            Document01::refusal(unit, cycle).filter(|&number| number != 2 || !ignored)
+        }
+    }
+    RangeFirst "refusal 1 is judged before 2" {
+        fn refusal(unit: &Unit, cycle: &Cycle) -> Option<u8> {
+            match Document01::out_of_range(cycle) {
+                true => Some(1),
+                false => Document01::refusal(unit, cycle),
+            }
+        }
+    }
+    CommandFirst "refusals 3 and 4 are judged before 2 and 1" {
+        fn step(unit: &mut Unit, cycle: &Cycle) -> Answer {
+            use witness::commands::Commands;
+            let command = class(*cycle) == Class::Command;
+            match Document01::command_refusal(cycle).filter(|_| command) {
+                Some(number) => Answer::quiet(Kind::Refused(number), unit.request),
+                None => Document01::step(unit, cycle),
+            }
+        }
+    }
+    DamageIsOne "a damaged unit is refused with 1" {
+        fn step(unit: &mut Unit, cycle: &Cycle) -> Answer {
+            step_if_whole(unit, cycle, 1)
+        }
+    }
+    WideVsn "VSN up to 127 is no damage" {
+        fn damaged(unit: &Unit) -> bool {
+            Document01::damaged(&Unit { vsn: unit.vsn & 0xBF, ..unit.clone() })
+        }
+    }
+    WideIsn "ISN up to 127 is no damage" {
+        fn damaged(unit: &Unit) -> bool {
+            Document01::damaged(&Unit { isn: unit.isn & 0xBF, ..unit.clone() })
+        }
+    }
+    WideBcsr "BCSR above 63 is no damage" {
+        fn damaged(unit: &Unit) -> bool {
+            Document01::damaged(&Unit { bcsr: 0, ..unit.clone() })
+        }
+    }
+    WideDscr "DSCR above 3 is no damage" {
+        fn damaged(unit: &Unit) -> bool {
+            Document01::damaged(&Unit { dscr: 0, ..unit.clone() })
+        }
+    }
+    NarrowSar "SAR 63 is damage" {
+        fn damaged(unit: &Unit) -> bool {
+            unit.sar > 62 || Document01::damaged(unit)
+        }
+    }
+    ResetAnyRange "a reset cycle is never refused 1" {
+        fn out_of_range(cycle: &Cycle) -> bool {
+            !cycle.reset && Document01::out_of_range(cycle)
+        }
+    }
+    IgnoredAnyRange "segment above 127 is refused in memory cycles only" {
+        fn out_of_range(cycle: &Cycle) -> bool {
+            cycle.status > 15 || cycle.segment > 127 && class(*cycle) == Class::Memory
+        }
+    }
+    StatusCut "status above 15 is cut to four bits" {
+        fn step(unit: &mut Unit, cycle: &Cycle) -> Answer {
+            Document01::step(unit, &Cycle { status: cycle.status % 16, ..*cycle })
+        }
+    }
+    SegmentCut "segment above 127 is cut to seven bits" {
+        fn step(unit: &mut Unit, cycle: &Cycle) -> Answer {
+            Document01::step(unit, &Cycle { segment: cycle.segment % 128, ..*cycle })
+        }
+    }
+    RefusalDropsTrap "a refusal shows the trap line off" {
+        fn step(unit: &mut Unit, cycle: &Cycle) -> Answer {
+            let answer = Document01::step(unit, cycle);
+            let refused = matches!(answer.kind, Kind::Refused(_));
+            Answer { trap: answer.trap && !refused, ..answer }
+        }
+    }
+    RefusalClearsRequest "a refused command takes the request back" {
+        fn step(unit: &mut Unit, cycle: &Cycle) -> Answer {
+            let answer = Document01::step(unit, cycle);
+            if matches!(answer.kind, Kind::Refused(3 | 4)) {
+                unit.request = false;
+            }
+            answer
+        }
+    }
+    RefusalHeld "a refused memory cycle is suppressed while hold stands" {
+        fn step(unit: &mut Unit, cycle: &Cycle) -> Answer {
+            let answer = Document01::step(unit, cycle);
+            let memory = matches!(cycle.status, 0x8..=0xD) && !cycle.dma && !cycle.reset;
+            let refused = matches!(answer.kind, Kind::Refused(_));
+            Answer { sup: answer.sup || refused && memory && unit.hold, ..answer }
+        }
+    }
+    DmaRefused "a bad command by DMA is refused 3 or 4" {
+        fn refusal(unit: &Unit, cycle: &Cycle) -> Option<u8> {
+            let dma = cycle.dma && cycle.status != 0x3;
+            Document01::refusal(unit, &Cycle { dma, ..*cycle })
+        }
+    }
+    ResetRefused "a reset cycle with a bad command is refused 3 or 4" {
+        fn refusal(unit: &Unit, cycle: &Cycle) -> Option<u8> {
+            Document01::refusal(unit, &Cycle { reset: false, ..*cycle })
+        }
+    }
+    AcknowledgeBeforeReset "an acknowledge comes before the reset line" {
+        fn class(cycle: &Cycle) -> Class {
+            match class(Cycle { reset: false, ..*cycle }) {
+                Class::Acknowledge => Class::Acknowledge,
+                _ => class(*cycle),
+            }
+        }
+    }
+    ResetNeedsCpu "the reset line counts in CPU cycles only" {
+        fn class(cycle: &Cycle) -> Class {
+            class(Cycle { reset: cycle.reset && !cycle.dma, ..*cycle })
+        }
+    }
+    DmaAcknowledges "a DMA cycle at status 4 acknowledges" {
+        fn class(cycle: &Cycle) -> Class {
+            class(Cycle { dma: cycle.dma && cycle.status != 0x4, ..*cycle })
+        }
+    }
+    AcknowledgeSelected "an acknowledge needs select" {
+        fn class(cycle: &Cycle) -> Class {
+            match class(*cycle) {
+                Class::Acknowledge if !cycle.select => Class::Ignored,
+                class => class,
+            }
+        }
+    }
+    AcknowledgeReads "an acknowledge must be a read" {
+        fn class(cycle: &Cycle) -> Class {
+            match class(*cycle) {
+                Class::Acknowledge if !cycle.read => Class::Ignored,
+                class => class,
+            }
+        }
+    }
+    AcknowledgeInSystem "an acknowledge must be in system mode" {
+        fn class(cycle: &Cycle) -> Class {
+            match class(*cycle) {
+                Class::Acknowledge if cycle.normal => Class::Ignored,
+                class => class,
+            }
+        }
+    }
+    DmaCommands "a selected DMA cycle at status 3 is a command" {
+        fn class(cycle: &Cycle) -> Class {
+            class(Cycle { dma: cycle.dma && cycle.status != 0x3, ..*cycle })
+        }
+    }
+    CommandInSystem "a command must be in system mode" {
+        fn class(cycle: &Cycle) -> Class {
+            match class(*cycle) {
+                Class::Command if cycle.normal => Class::Ignored,
+                class => class,
+            }
+        }
+    }
+    CommandUnselected "a command needs no select" {
+        fn class(cycle: &Cycle) -> Class {
+            class(Cycle { select: true, ..*cycle })
+        }
+    }
+    CommandAtTwo "status 2 is a command as well" {
+        fn class(cycle: &Cycle) -> Class {
+            let status = if cycle.status == 0x2 { 0x3 } else { cycle.status };
+            class(Cycle { status, ..*cycle })
+        }
+    }
+    MemoryToE "status %E is a memory cycle" {
+        fn class(cycle: &Cycle) -> Class {
+            let status = if cycle.status == 0xE { 0x8 } else { cycle.status };
+            class(Cycle { status, ..*cycle })
+        }
+    }
+    MemoryFromNine "status %8 is no memory cycle" {
+        fn class(cycle: &Cycle) -> Class {
+            let status = if cycle.status == 0x8 { 0x0 } else { cycle.status };
+            class(Cycle { status, ..*cycle })
+        }
+    }
+    DmaIgnored "DMA memory cycles are ignored" {
+        fn class(cycle: &Cycle) -> Class {
+            match class(*cycle) {
+                Class::Memory if cycle.dma => Class::Ignored,
+                class => class,
+            }
+        }
+    }
+    ResetLeavesVtr "a reset leaves the VTR" {
+        fn reset(unit: &mut Unit, cycle: &Cycle) {
+            let vtr = unit.vtr;
+            Document01::reset(unit, cycle);
+            unit.vtr = vtr;
+        }
+    }
+    ResetLeavesDscr "a reset leaves DSCR" {
+        fn reset(unit: &mut Unit, cycle: &Cycle) {
+            let dscr = unit.dscr;
+            Document01::reset(unit, cycle);
+            unit.dscr = dscr;
+        }
+    }
+    ResetLeavesRequest "a reset leaves a trap in flight: request and await" {
+        fn reset(unit: &mut Unit, cycle: &Cycle) {
+            let (request, awaits) = (unit.request, unit.awaits);
+            Document01::reset(unit, cycle);
+            (unit.request, unit.awaits) = (request, awaits);
+        }
+    }
+    ResetLeavesHold "a reset leaves own and hold" {
+        fn reset(unit: &mut Unit, cycle: &Cycle) {
+            let (own, hold) = (unit.own, unit.hold);
+            Document01::reset(unit, cycle);
+            (unit.own, unit.hold) = (own, hold);
+        }
+    }
+    ResetClearsSar "a reset clears SAR" {
+        fn reset(unit: &mut Unit, cycle: &Cycle) {
+            Document01::reset(unit, cycle);
+            unit.sar = 0;
+        }
+    }
+    ResetClearsViolation "a reset clears VSN, VOFF and BCSR" {
+        fn reset(unit: &mut Unit, cycle: &Cycle) {
+            Document01::reset(unit, cycle);
+            (unit.vsn, unit.voff, unit.bcsr) = (0, 0, 0);
+        }
+    }
+    ResetClearsInstruction "a reset clears ISN and IOFF" {
+        fn reset(unit: &mut Unit, cycle: &Cycle) {
+            Document01::reset(unit, cycle);
+            (unit.isn, unit.ioff) = (0, 0);
+        }
+    }
+    ResetClearsTable "a reset clears the descriptors" {
+        fn reset(unit: &mut Unit, cycle: &Cycle) {
+            Document01::reset(unit, cycle);
+            unit.table = [Descriptor::default(); 64];
+        }
+    }
+    ResetAlwaysOn "a reset sets MR to %80 whatever select says" {
+        fn reset(unit: &mut Unit, cycle: &Cycle) {
+            Document01::reset(unit, cycle);
+            unit.mr = 0x80;
+        }
+    }
+    ResetAlwaysOff "a reset sets MR to 0 whatever select says" {
+        fn reset(unit: &mut Unit, cycle: &Cycle) {
+            Document01::reset(unit, cycle);
+            unit.mr = 0;
+        }
+    }
+    ResetTranslates "a selected reset sets TRNS too" {
+        fn reset(unit: &mut Unit, cycle: &Cycle) {
+            Document01::reset(unit, cycle);
+            unit.mr |= if cycle.select { mode::TRNS } else { 0 };
+        }
+    }
+    ResetKeepsId "a reset keeps the ID and range of MR" {
+        fn reset(unit: &mut Unit, cycle: &Cycle) {
+            let kept = unit.mr & (mode::ID | mode::URS);
+            Document01::reset(unit, cycle);
+            unit.mr |= kept;
+        }
+    }
+    ResetShowsOldTrap "a reset cycle still shows the request that it clears" {
+        fn step(unit: &mut Unit, cycle: &Cycle) -> Answer {
+            let stood = unit.request;
+            let answer = Document01::step(unit, cycle);
+            match answer.kind {
+                Kind::Reset => Answer { trap: stood, ..answer },
+                _ => answer,
+            }
+        }
+    }
+    AcknowledgeShowsOldTrap "an acknowledge still shows the request that it clears" {
+        fn step(unit: &mut Unit, cycle: &Cycle) -> Answer {
+            let stood = unit.request;
+            let answer = Document01::step(unit, cycle);
+            match answer.kind {
+                Kind::Acknowledge => Answer { trap: stood, ..answer },
+                _ => answer,
+            }
+        }
+    }
+    AcknowledgeDrivesZero "an acknowledge with MSEN clear drives 00" {
+        fn acknowledge(unit: &mut Unit, cycle: &Cycle) -> Option<u8> {
+            Document01::acknowledge(unit, cycle).or(Some(0))
+        }
+    }
+    AcknowledgeAlwaysDrives "an acknowledge drives its line with MSEN clear too" {
+        fn acknowledge(unit: &mut Unit, cycle: &Cycle) -> Option<u8> {
+            let mr = unit.mr;
+            unit.mr |= mode::MSEN;
+            let data = Document01::acknowledge(unit, cycle);
+            unit.mr = mr;
+            data
+        }
+    }
+    AcknowledgeOffIgnored "an acknowledge with MSEN clear is shown as I" {
+        fn step(unit: &mut Unit, cycle: &Cycle) -> Answer {
+            let answer = Document01::step(unit, cycle);
+            match answer.kind {
+                Kind::Acknowledge if answer.data.is_none() => {
+                    Answer { kind: Kind::Ignored, ..answer }
+                }
+                _ => answer,
+            }
+        }
+    }
+    AcknowledgeNeedsMsen "an acknowledge with MSEN clear leaves the notes" {
+        fn acknowledge(unit: &mut Unit, cycle: &Cycle) -> Option<u8> {
+            match unit.mode(mode::MSEN) {
+                true => Document01::acknowledge(unit, cycle),
+                false => None,
+            }
+        }
+    }
+    AcknowledgeLeavesAwait "an acknowledge leaves await: it only takes the request back" {
+        fn acknowledge(unit: &mut Unit, cycle: &Cycle) -> Option<u8> {
+            let awaits = unit.awaits;
+            let data = Document01::acknowledge(unit, cycle);
+            unit.awaits = awaits;
+            data
+        }
+    }
+    AcknowledgeLeavesOwn "an acknowledge leaves own" {
+        fn acknowledge(unit: &mut Unit, cycle: &Cycle) -> Option<u8> {
+            let own = unit.own;
+            let data = Document01::acknowledge(unit, cycle);
+            unit.own = own;
+            data
+        }
+    }
+    AcknowledgeLeavesHold "an acknowledge leaves hold" {
+        fn acknowledge(unit: &mut Unit, cycle: &Cycle) -> Option<u8> {
+            let hold = unit.hold;
+            let data = Document01::acknowledge(unit, cycle);
+            unit.hold = hold;
+            data
+        }
+    }
+    AcknowledgeLowNotDriven "an acknowledge without request drives nothing" {
+        fn acknowledge(unit: &mut Unit, cycle: &Cycle) -> Option<u8> {
+            Document01::acknowledge(unit, cycle).filter(|&data| data != 0)
+        }
+    }
+    AcknowledgeIdNumber "the acknowledge byte is the ID itself" {
+        fn acknowledge(unit: &mut Unit, cycle: &Cycle) -> Option<u8> {
+            let id = unit.mr & mode::ID;
+            let data = Document01::acknowledge(unit, cycle);
+            data.map(|line| if line == 0 { 0 } else { id })
+        }
+    }
+    AcknowledgeReversed "the acknowledge byte counts the lines from the top" {
+        fn acknowledge(unit: &mut Unit, cycle: &Cycle) -> Option<u8> {
+            Document01::acknowledge(unit, cycle).map(u8::reverse_bits)
+        }
+    }
+    AcknowledgeClearsVtr "an acknowledge clears the VTR" {
+        fn acknowledge(unit: &mut Unit, cycle: &Cycle) -> Option<u8> {
+            let data = Document01::acknowledge(unit, cycle);
+            unit.vtr = 0;
+            data
+        }
+    }
+    HoldInCommands "a standing hold turns SUP on in commands and acknowledges" {
+        fn step(unit: &mut Unit, cycle: &Cycle) -> Answer {
+            let hold = unit.hold;
+            let answer = Document01::step(unit, cycle);
+            match answer.kind {
+                Kind::Command | Kind::Acknowledge => Answer { sup: hold, ..answer },
+                _ => answer,
+            }
+        }
+    }
+    HoldInIgnored "a standing hold turns SUP on in cycles that are no memory cycles" {
+        fn step(unit: &mut Unit, cycle: &Cycle) -> Answer {
+            let hold = unit.hold;
+            let answer = Document01::step(unit, cycle);
+            match class(*cycle) {
+                Class::Ignored if answer.kind == Kind::Ignored => Answer { sup: hold, ..answer },
+                _ => answer,
+            }
+        }
+    }
+    HoldInReset "a standing hold turns SUP on in the reset cycle that clears it" {
+        fn step(unit: &mut Unit, cycle: &Cycle) -> Answer {
+            let hold = unit.hold;
+            let answer = Document01::step(unit, cycle);
+            match answer.kind {
+                Kind::Reset => Answer { sup: hold, ..answer },
+                _ => answer,
+            }
+        }
+    }
+    TrapNeedsMsen "the trap line is off while MSEN is clear" {
+        fn step(unit: &mut Unit, cycle: &Cycle) -> Answer {
+            let answer = Document01::step(unit, cycle);
+            Answer { trap: answer.trap && unit.mode(mode::MSEN), ..answer }
+        }
+    }
+    NothingChanges "a step that changes nothing" {
+        fn step(unit: &mut Unit, cycle: &Cycle) -> Answer {
+            Document01::step(&mut unit.clone(), cycle)
+        }
+    }
+}

@@ -1,0 +1,230 @@
+//! Step scripts: units that no capture reaches, and cycles near them.
+
+use std::fmt::Write;
+
+use crate::cycle::Cycle;
+use crate::script::Registers;
+use crate::unit::{attribute, mode, violation, Descriptor, Unit};
+
+use super::bus::{violates, warns, warns_at_system_stack, Bus};
+use super::random::Random;
+use super::story::story;
+
+const KINDS: [&str; 6] = ["sane", "orphan", "damaged", "range", "any", "story"];
+
+/// A script of so many cases, each with a unit of its own.
+pub fn script(seed: u64, count: usize) -> String {
+    cases(seed, count).collect()
+}
+
+pub fn cases(seed: u64, count: usize) -> impl Iterator<Item = String> {
+    (0..count).map(move |case| {
+        let kind = KINDS[case % KINDS.len()];
+        let random = Random::new(seed, case as u64);
+        format!("# {case} {kind}\n{}", scene(random, kind))
+    })
+}
+
+fn scene(mut random: Random, kind: &str) -> String {
+    if kind == "story" {
+        let length = random.between(20, 60);
+        return lines(&Unit::power_on(), &[], &story(random, length));
+    }
+    let mut bus = Bus::new(random);
+    let hot = table(&mut bus);
+    bus.unit = match kind {
+        "orphan" => orphan(&mut bus),
+        "damaged" => damaged(&mut bus),
+        "any" => any(&mut bus),
+        _ => sane(&mut bus),
+    };
+    let start = bus.unit.clone();
+    for _ in 0..bus.random.between(1, 8) {
+        let mut cycle = cycle(&mut bus);
+        if matches!(kind, "range" | "any") {
+            cycle = beyond(&mut bus, cycle);
+        }
+        bus.push(cycle);
+    }
+    lines(&start, &hot, &bus.cycles)
+}
+
+/// The script's lines for a unit, its loaded descriptors and its cycles.
+fn lines(unit: &Unit, hot: &[u8], cycles: &[Cycle]) -> String {
+    let mut text = format!("U {}\n", Registers(unit));
+    for &number in hot {
+        let descriptor = unit.table[usize::from(number)];
+        writeln!(text, "D {number:02X} {descriptor}").expect("a string takes every line");
+    }
+    for cycle in cycles {
+        let flags = u8::from(cycle.read)
+            | u8::from(cycle.normal) << 1
+            | u8::from(cycle.dma) << 2
+            | u8::from(cycle.select) << 3
+            | u8::from(cycle.reset) << 4;
+        let (status, segment, offset, data) =
+            (cycle.status, cycle.segment, cycle.offset, cycle.data);
+        writeln!(
+            text,
+            "C {status:02X} {flags:02X} {segment:02X} {offset:02X} {data:02X}"
+        )
+        .expect("a string takes every line");
+    }
+    text
+}
+
+/// A few descriptors, a stack among them, and the segments that use them.
+fn table(bus: &mut Bus) -> Vec<u8> {
+    let upper = bus.random.once_in(3);
+    let hot: Vec<u8> = (0..bus.random.between(2, 4))
+        .map(|_| bus.random.byte() % 64)
+        .collect();
+    for (place, &number) in hot.iter().enumerate() {
+        let flag = bus.random.pick(&[0, 0, attribute::DIRW]);
+        bus.unit.table[usize::from(number)] = Descriptor {
+            base: bus.random.word(),
+            limit: bus.random.byte() % 4,
+            attributes: match place {
+                0 => attribute::DIRW,
+                1 => flag,
+                _ => flag | 1 << bus.random.below(8),
+            },
+        };
+    }
+    let range = if upper { 64 } else { 0 };
+    bus.segments = hot.iter().map(|number| number + range).collect();
+    hot
+}
+
+/// Registers within their bounds and any notes, mostly translating.
+fn sane(bus: &mut Bus) -> Unit {
+    let range = if bus.segments[0] >= 64 { mode::URS } else { 0 };
+    let random = &mut bus.random;
+    let translating = mode::MSEN | mode::TRNS | range | random.byte() & mode::ID;
+    let empty = random.coin();
+    let [request, awaits, own, hold] = [0; 4].map(|_| random.coin());
+    Unit {
+        mr: if random.once_in(6) {
+            random.byte()
+        } else {
+            translating
+        },
+        sar: random.byte() % 64,
+        dscr: random.byte() % 4,
+        vtr: if empty { 0 } else { random.byte() },
+        vsn: random.byte() % 64,
+        voff: random.byte(),
+        bcsr: random.byte() % 64,
+        isn: random.byte() % 64,
+        ioff: random.byte(),
+        request,
+        awaits,
+        own,
+        hold,
+        ..bus.unit.clone()
+    }
+}
+
+/// SWW or FATL or both without a primary flag.
+fn orphan(bus: &mut Bus) -> Unit {
+    let vtr = [
+        violation::SWW,
+        violation::FATL,
+        violation::SWW | violation::FATL,
+    ];
+    Unit {
+        vtr: bus.random.pick(&vtr),
+        ..sane(bus)
+    }
+}
+
+/// One register out of its bounds, often by one.
+fn damaged(bus: &mut Bus) -> Unit {
+    let mut unit = sane(bus);
+    let number = bus.random.pick(&[64, 64, 65, 127, 128, 0xFF]);
+    match bus.random.below(5) {
+        0 => unit.sar = number,
+        1 => unit.vsn = number,
+        2 => unit.isn = number,
+        3 => unit.bcsr = number,
+        _ => unit.dscr = bus.random.pick(&[4, 4, 5, 0x80, 0xFF]),
+    }
+    unit
+}
+
+/// Any bytes at all, now and then within bounds.
+fn any(bus: &mut Bus) -> Unit {
+    let bound = bus.random.pick(&[64, 64, 128]);
+    let random = &mut bus.random;
+    Unit {
+        mr: random.byte(),
+        sar: random.byte() % bound,
+        dscr: random.byte() % 5,
+        vtr: random.byte(),
+        vsn: random.byte() % bound,
+        voff: random.byte(),
+        bcsr: random.byte() % bound,
+        isn: random.byte() % bound,
+        ioff: random.byte(),
+        request: random.coin(),
+        awaits: random.coin(),
+        own: random.coin(),
+        hold: random.coin(),
+        ..bus.unit.clone()
+    }
+}
+
+/// Events, fetches, commands, acknowledges and cycles of any status.
+fn cycle(bus: &mut Bus) -> Cycle {
+    let event: fn(&Unit, &Cycle) -> bool = match bus.random.below(8) {
+        0 | 1 => violates,
+        2 => warns,
+        3 => warns_at_system_stack,
+        _ => |_, _| true,
+    };
+    let memory = bus.aim(event).unwrap_or_else(|| bus.operand());
+    match bus.random.below(12) {
+        0 | 1 => Cycle {
+            status: 0xD,
+            read: true,
+            dma: false,
+            ..memory
+        },
+        2 | 3 => Cycle {
+            status: 0x3,
+            select: true,
+            dma: bus.random.once_in(6),
+            offset: bus.random.byte() % 0x24,
+            ..memory
+        },
+        4 => Cycle {
+            status: 0x4,
+            ..memory
+        },
+        5 => Cycle {
+            status: bus.random.byte() % 16,
+            reset: bus.random.coin(),
+            ..memory
+        },
+        _ => memory,
+    }
+}
+
+/// The same with its status or segment out of range, often by one.
+fn beyond(bus: &mut Bus, cycle: Cycle) -> Cycle {
+    let status = bus.random.pick(&[16, 17, 0x13, 0x14, 0x18, 0x80, 0xFF]);
+    let reset = cycle.reset || bus.random.once_in(4);
+    match bus.random.below(3) {
+        0 => Cycle {
+            status,
+            reset,
+            ..cycle
+        },
+        1 => Cycle {
+            segment: cycle.segment | 0x80,
+            reset,
+            ..cycle
+        },
+        _ => cycle,
+    }
+}

@@ -1,0 +1,76 @@
+//! Recording: what a CPU cycle's violation or warning leaves in the VTR, the
+//! violation registers and the notes.
+
+use crate::checks::Finding;
+use crate::cycle::Cycle;
+use crate::unit::{violation, Unit};
+
+pub trait Recording {
+    /// Called for CPU cycles only.
+    fn record(unit: &mut Unit, cycle: &Cycle, finding: Finding) {
+        let flags = match finding {
+            Finding::Clean => return,
+            Finding::Warning => violation::PWW,
+            Finding::Violation(flags) => flags,
+        };
+        if unit.vtr & violation::PRIMARY == 0 {
+            Self::first_entry(unit, cycle, flags);
+        } else if unit.own {
+            Self::further_entry(unit, cycle, flags);
+        } else if finding == Finding::Warning && Self::system_stack(cycle) {
+            Self::second_warning(unit);
+        } else {
+            Self::fatal(unit);
+        }
+        if finding != Finding::Warning {
+            unit.hold = true;
+        }
+    }
+
+    /// No primary flag yet. FATL as it stood tells an orphan that may not
+    /// request; an orphan of SWW alone does.
+    fn first_entry(unit: &mut Unit, cycle: &Cycle, flags: u8) {
+        let silent = unit.vtr & violation::FATL != 0;
+        unit.vtr |= flags;
+        unit.vsn = cycle.entry();
+        unit.voff = cycle.offset;
+        unit.bcsr = cycle.bus_status();
+        unit.own = true;
+        if !silent {
+            Self::trap(unit);
+        }
+    }
+
+    /// The instruction that made the first entry: flags, nothing else.
+    fn further_entry(unit: &mut Unit, _cycle: &Cycle, flags: u8) {
+        unit.vtr |= flags;
+    }
+
+    fn second_warning(unit: &mut Unit) {
+        if unit.vtr & violation::SWW != 0 {
+            return;
+        }
+        unit.vtr |= violation::SWW;
+        if unit.vtr & violation::FATL == 0 {
+            Self::trap(unit);
+        }
+    }
+
+    fn fatal(unit: &mut Unit) {
+        let stood = unit.vtr & violation::FATL != 0;
+        unit.vtr |= violation::FATL;
+        if !stood {
+            Self::trap(unit);
+        }
+    }
+
+    /// A new trap, also while one stands: another aborted fetch comes.
+    fn trap(unit: &mut Unit) {
+        unit.request = true;
+        unit.awaits = true;
+    }
+
+    fn system_stack(cycle: &Cycle) -> bool {
+        !cycle.normal && cycle.status == 0x9
+    }
+}
