@@ -14,3 +14,8 @@ answers u (c ∷ cs) = stepped u c .answer ∷ answers (stepped u c .unit) cs
 unfoldable pub final : Unit → List Cycle → Unit
 final u [] = u
 final u (c ∷ cs) = final (stepped u c .unit) cs
+
+-- the unit after each of them
+unfoldable pub units : Unit → List Cycle → List Unit
+units u [] = []
+units u (c ∷ cs) = stepped u c .unit ∷ units (stepped u c .unit) cs

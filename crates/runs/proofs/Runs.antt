@@ -3,7 +3,7 @@
 use mathlib.Core.Path.{_≡_, refl}
 use mathlib.Core.Bool.{true}
 use mathlib.Core.List.{List, [], _∷_}
-use Rattle.rules.specs.Runs.{answers, final}
+use Rattle.rules.specs.Runs.{answers, final, units}
 use Rattle.rules.specs.Step.{stepped}
 use Rattle.rules.specs.declared.Answer.{Answer}
 use Rattle.rules.specs.declared.Cycle.{Cycle}
@@ -26,3 +26,9 @@ kept Q P A step (c ∷ cs) u q p =
 pub always : (P : Unit → Type 0) → ((u : Unit) (c : Cycle) → P u → P (stepped u c .unit)) → (u : Unit) (cs : List Cycle) → P u → P (final u cs)
 always P step u cs p =
     kept (λ c. true ≡ true) P (λ x. true ≡ true) (λ u c q p. (refl, step u c p)) cs u (every _ (λ c. refl) cs) p .1
+
+-- and it holds after each cycle on the way
+pub throughout : (P : Unit → Type 0) → ((u : Unit) (c : Cycle) → P u → P (stepped u c .unit)) → (u : Unit) (cs : List Cycle) → P u → Every P (units u cs)
+unfolding units
+throughout P step u [] p = refl
+throughout P step u (c ∷ cs) p = (step u c p, throughout P step (stepped u c .unit) cs (step u c p))

@@ -22,9 +22,9 @@ use Rattle.rules.specs.declared.Cycle.{Cycle}
 use Rattle.rules.specs.declared.Descriptor.{Descriptor}
 use Rattle.rules.specs.declared.Registers.{Registers}
 use Rattle.rules.specs.declared.Unit.{Unit}
-use Rattle.runs.specs.Undamaged.{Bounded, Undamaged, BoundedExactly, StaysUndamaged, UndamagedFromPowerOn}
+use Rattle.runs.specs.Undamaged.{Bounded, Undamaged, BoundedExactly, StaysUndamaged, UndamagedFromPowerOn, UndamagedThroughout}
 use Rattle.runs.proofs.Bits.{or-if}
-use Rattle.runs.proofs.Runs.{always}
+use Rattle.runs.proofs.Runs.{always, throughout}
 use Rattle.runs.proofs.Ways.{Became, stayed, controls, empties, clears, restarts, quiets, resumes, begins}
 use Rattle.runs.proofs.Ways.{records, by-row, made}
 use Rattle.runs.proofs.Tests.{cond-le, or-l, or-r}
@@ -101,6 +101,9 @@ undamaged-after u c h =
 
 pub stays-undamaged : StaysUndamaged
 stays-undamaged = always Undamaged undamaged-after
+
+pub undamaged-throughout : UndamagedThroughout
+undamaged-throughout = throughout Undamaged undamaged-after
 
 pub undamaged-from-power-on : UndamagedFromPowerOn
 unfolding damaged

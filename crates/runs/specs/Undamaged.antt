@@ -8,10 +8,11 @@ use Prim.Native.Nat.{_≤_}
 use lib.ListN.{length}
 use Rattle.rules.specs.PowerOn.{powerOn}
 use Rattle.rules.specs.Refusals.{damaged}
-use Rattle.rules.specs.Runs.{final}
+use Rattle.rules.specs.Runs.{final, units}
 use Rattle.rules.specs.declared.Cycle.{Cycle}
 use Rattle.rules.specs.declared.Registers.{Registers}
 use Rattle.rules.specs.declared.Unit.{Unit}
+use Rattle.runs.specs.Sequences.{Every}
 
 -- the ranges of "What the unit is given, what it keeps", of the registers that 2 looks at
 pub record Bounded (r : Registers) : Type 0 where
@@ -34,6 +35,10 @@ BoundedExactly = (r : Registers) → (damaged r ≡ false) ↔ Bounded r
 -- CLAIM: an undamaged unit stays undamaged, whatever cycles come, in whatever order.
 abbrev pub StaysUndamaged : Type 0
 StaysUndamaged = (u : Unit) (cs : List Cycle) → Undamaged u → Undamaged (final u cs)
+
+-- CLAIM: and it is undamaged after each cycle on the way.
+abbrev pub UndamagedThroughout : Type 0
+UndamagedThroughout = (u : Unit) (cs : List Cycle) → Undamaged u → Every Undamaged (units u cs)
 
 -- CLAIM: so no run from power-on ever meets 2.
 abbrev pub UndamagedFromPowerOn : Type 0
