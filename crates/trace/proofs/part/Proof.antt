@@ -8,7 +8,7 @@ use lib.Dec.{eqb}
 use lib.ListN.{length, take, drop}
 use borrow.Author.Tests.{eqb-true}
 use Rattle.trace.specs.Trace.{recordAt, partBy, partOf}
-use Rattle.trace.proofs.Taken.{record-within}
+use Rattle.trace.proofs.Within.{record-within}
 use borrow.Author.Needs.{needs}
 use Rattle.trace.proofs.part.Statement.{statement}
 use Rattle.trace.proofs.part.Tie as tie

@@ -1,8 +1,8 @@
--- `trace::refusal` meets its contract: each answer follows from the tests on its way and what the calls ensure. Assumes nothing.
-use Rattle.trace.specs.Trace.{refusalOf}
+-- `header::refusal` meets its contract: each answer follows from the tests on its way and what the calls ensure. Assumes nothing.
+use Rattle.header.specs.Header.{refusalOf}
 use borrow.Author.Needs.{needs}
-use Rattle.trace.proofs.refusal.Statement.{statement}
-use Rattle.trace.proofs.refusal.Tie as tie
+use Rattle.header.proofs.refusal.Statement.{statement}
+use Rattle.header.proofs.refusal.Tie as tie
 
 pub refusal-spec : {M : Type 1} → statement M
 unfolding refusalOf
@@ -18,7 +18,7 @@ refusal-spec =
       c .before .before .if2 .left,
       c .before .before .before .before .if1 .left,
       ← c .before .before .before .marked .ensures,
-      ← c .before .version .ensures,
+      ← c .before .pair-at .ensures .0,
     ))
     (λ c κs. search needs)
     (λ c. simp (
@@ -27,7 +27,7 @@ refusal-spec =
       c .before .before .before .before .if2 .left,
       c .before .before .before .before .before .before .if1 .left,
       ← c .before .before .before .before .before .marked .ensures,
-      ← c .before .before .before .version .ensures,
+      ← c .before .before .before .pair-at .ensures .0,
       ← c .before .stated .ensures .0,
     ))
     (λ c. search needs)
@@ -39,7 +39,7 @@ refusal-spec =
       c .before .before .before .before .before .if2 .left,
       c .before .before .before .before .before .before .before .if1 .left,
       ← c .before .before .before .before .before .before .marked .ensures,
-      ← c .before .before .before .before .version .ensures,
+      ← c .before .before .before .before .pair-at .ensures .0,
       ← c .before .before .stated .ensures .0,
     ))
     (λ c. simp (
@@ -49,6 +49,6 @@ refusal-spec =
       c .before .before .before .before .before .if2 .left,
       c .before .before .before .before .before .before .before .if1 .left,
       ← c .before .before .before .before .before .before .marked .ensures,
-      ← c .before .before .before .before .version .ensures,
+      ← c .before .before .before .before .pair-at .ensures .0,
       ← c .before .before .stated .ensures .0,
     )))

@@ -1,8 +1,8 @@
--- `trace::marked` meets its contract: what the calls ensure, put together. Assumes nothing.
-use Rattle.trace.specs.Trace.{marked}
+-- `header::marked` meets its contract: what the calls ensure, put together. Assumes nothing.
+use Rattle.header.specs.Header.{marked}
 use borrow.Author.Needs.{needs}
-use Rattle.trace.proofs.marked.Statement.{statement}
-use Rattle.trace.proofs.marked.Tie as tie
+use Rattle.header.proofs.marked.Statement.{statement}
+use Rattle.header.proofs.marked.Tie as tie
 
 pub marked-spec : {M : Type 1} → statement M
 unfolding marked

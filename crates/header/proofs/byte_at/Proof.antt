@@ -1,10 +1,10 @@
--- `trace::byte_at` meets its contract: past the end of a list, `getD` gives its default. Assumes nothing.
+-- `header::byte_at` meets its contract: past the end of a list, `getD` gives its default. Assumes nothing.
 use mathlib.Core.Path.{sym}
 use denote.Ref.{now}
 use lib.ListN.{List·getD-eq-default}
 use borrow.Author.Needs.{needs}
-use Rattle.trace.proofs.byte_at.Statement.{statement}
-use Rattle.trace.proofs.byte_at.Tie as tie
+use Rattle.header.proofs.byte_at.Statement.{statement}
+use Rattle.header.proofs.byte_at.Tie as tie
 
 pub byte-at-spec : {M : Type 1} → statement M
 byte-at-spec =
