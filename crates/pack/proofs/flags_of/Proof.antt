@@ -1,0 +1,16 @@
+-- `pack::flags_of` meets its contract: what the calls ensure, put together. Assumes nothing.
+use Rattle.pack.specs.Packed.{flagsOf}
+use borrow.Author.Needs.{needs}
+use Rattle.pack.proofs.flags_of.Statement.{statement}
+use Rattle.pack.proofs.flags_of.Tie as tie
+
+pub flags-of-spec : {M : Type 1} → statement M
+unfolding flagsOf
+flags-of-spec =
+    tie.close
+    (tie.spec
+    (λ c κs. search needs)
+    (λ c κs. search needs)
+    (λ c κs. search needs)
+    (λ c κs. search needs)
+    (λ c. cc))

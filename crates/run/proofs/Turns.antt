@@ -1,0 +1,99 @@
+-- What one turn of the run does: one record more, answered and applied.
+-- Assumes nothing.
+use mathlib.Core.Path.{_≡_, refl, sym, ap, _∙_}
+use mathlib.Core.List.{List, [], _∷_, _++_}
+use Prim.Native.Nat.{ℕ, zero, suc, _+_, _*_}
+use native.Mathlib.Omega.{arith}
+use native.Mathlib.Numerals.{add-one}
+use native.Mathlib.Nat.{add-zero}
+use lib.ListN.{length, set, length-append}
+use lib.Seq.{sets}
+use Rattle.rules.specs.PowerOn.{powerOn}
+use Rattle.rules.specs.Runs.{answers, final}
+use Rattle.rules.specs.Step.{changed, place, decision, after}
+use Rattle.rules.specs.declared.Answer.{Answer}
+use Rattle.rules.specs.declared.Cycle.{Cycle}
+use Rattle.rules.specs.declared.Decision.{Decision}
+use Rattle.rules.specs.declared.Descriptor.{Descriptor}
+use Rattle.rules.specs.declared.Unit.{Unit}
+use Rattle.trace.specs.Trace.{recordAt, cycleOf, cyclesTo}
+use Rattle.pack.specs.Packed.{packed, bytesOf}
+use Rattle.run.specs.Run.{ranTo}
+
+-- ---- stores one after the other
+sets-append : (xs ys o : List ℕ) (i j : ℕ) → j ≡ i + length xs → sets (sets o i xs) j ys ≡ sets o i (xs ++ ys)
+sets-append [] ys o i j e = ap (λ (k : ℕ). sets o k ys) (e ∙ add-zero i)
+sets-append (x ∷ xs) ys o i j e = sets-append xs ys (set o i x) (suc i) j (omega (arith, e))
+
+-- ---- one cycle more
+answers-more : (cs : List Cycle) (u : Unit) (c : Cycle)
+    → answers u (cs ++ (c ∷ [])) ≡ answers u cs ++ (decision (final u cs) c .answer ∷ [])
+unfolding answers final
+answers-more [] u c = refl
+answers-more (x ∷ cs) u c = ap (λ (r : List Answer). decision u x .answer ∷ r) (answers-more cs (after u x) c)
+
+final-more : (cs : List Cycle) (u : Unit) (c : Cycle) → final u (cs ++ (c ∷ [])) ≡ after (final u cs) c
+unfolding final
+final-more [] u c = refl
+final-more (x ∷ cs) u c = final-more cs (after u x) c
+
+bytes-more : (rest : List Answer) (a : Answer) → bytesOf (rest ++ (a ∷ [])) ≡ bytesOf rest ++ packed a
+unfolding bytesOf packed
+bytes-more [] a = refl
+bytes-more (x ∷ rest) a = ap (λ (r : List ℕ). packed x ++ r) (bytes-more rest a)
+
+-- ---- lengths
+bytes-length : (cs : List Cycle) (u : Unit) → length (bytesOf (answers u cs)) ≡ 6 * length cs
+unfolding bytesOf packed answers
+bytes-length [] u = refl
+bytes-length (c ∷ cs) u = let h : length (bytesOf (answers (after u c) cs)) ≡ 6 * length cs = bytes-length cs (after u c) in omega (arith, h)
+
+cycles-length : (t : List ℕ) (n : ℕ) → length (cyclesTo t n) ≡ n
+unfolding cyclesTo
+cycles-length t zero = refl
+cycles-length t (suc n) =
+    length-append (cyclesTo t n) (cycleOf (recordAt t n) ∷ []) ∙ let h : length (cyclesTo t n) ≡ n = cycles-length t n in omega (arith, h)
+
+-- ---- a turn: the unit after n records, and what it decides for record n
+abbrev pub unitAt : List ℕ → ℕ → Unit
+unitAt t n = final powerOn (cyclesTo t n)
+
+abbrev pub cycleAt : List ℕ → ℕ → Cycle
+cycleAt t n = cycleOf (recordAt t n)
+
+turn-bytes : (t o : List ℕ) (n : ℕ)
+    → sets (ranTo t n o) (6 * n) (packed (decision (unitAt t n) (cycleAt t n) .answer)) ≡ ranTo t (n + 1) o
+unfolding ranTo cyclesTo
+turn-bytes t o n =
+    let cs : List Cycle = cyclesTo t n in
+    let a : Answer = decision (unitAt t n) (cycleAt t n) .answer in
+    let long : length (bytesOf (answers powerOn cs)) ≡ 6 * n = bytes-length cs powerOn ∙ ap (λ (k : ℕ). 6 * k) (cycles-length t n) in
+    sets-append (bytesOf (answers powerOn cs)) (packed a) o 0 (6 * n) (omega (arith, long))
+    ∙ ap (λ (bs : List ℕ). sets o 0 bs) (sym (ap bytesOf (answers-more cs powerOn (cycleAt t n)) ∙ bytes-more (answers powerOn cs) a))
+    ∙ ap (λ (k : ℕ). sets o 0 (bytesOf (answers powerOn (cyclesTo t k)))) (sym (add-one n))
+
+turn-unit : (t : List ℕ) (n : ℕ) → after (unitAt t n) (cycleAt t n) ≡ unitAt t (n + 1)
+unfolding cyclesTo
+turn-unit t n = sym (final-more (cyclesTo t n) powerOn (cycleAt t n)) ∙ ap (λ (k : ℕ). unitAt t k) (sym (add-one n))
+
+-- what is decided in the turn, applied
+pub turned : (t : List ℕ) (n : ℕ) (u : Unit) (p : Decision) (l : List Descriptor) → u ≡ unitAt t n → p ≡ decision u (cycleAt t n)
+    → l ≡ changed (p .change) (place u (cycleAt t n)) (u .table)
+    → _≡_ {A = Unit} (record { table = l; registers = p .registers }) (unitAt t (n + 1))
+unfolding after
+turned t n u p l e q h =
+    let c : Cycle = cycleAt t n in
+    let f : List Descriptor → Decision → Unit = λ m d. record { table = m; registers = d .registers } in
+    ap (λ (m : List Descriptor). f m p) h
+    ∙ ap (λ (d : Decision). f (changed (d .change) (place u c) (u .table)) d) q
+    ∙ ap (λ (v : Unit). after v c) e
+    ∙ turn-unit t n
+
+-- and its answer, stored
+pub stored : (t o out : List ℕ) (n : ℕ) (u : Unit) (p : Decision) → out ≡ ranTo t n o → u ≡ unitAt t n → p ≡ decision u (cycleAt t n)
+    → sets out (6 * n) (packed (p .answer)) ≡ ranTo t (n + 1) o
+stored t o out n u p h e q =
+    ap (λ (m : List ℕ). sets m (6 * n) (packed (p .answer))) h
+    ∙ ap (λ (d : Decision). sets (ranTo t n o) (6 * n) (packed (d .answer))) q
+    ∙ ap (λ (v : Unit). sets (ranTo t n o) (6 * n) (packed (decision v (cycleAt t n) .answer))) e
+    ∙ turn-bytes t o n

@@ -1,0 +1,77 @@
+// The run of a trace from power-on: the table and the registers are locals, and each record is one call of `act`.
+ghost use mathlib.Core.Path.{_≡_};
+ghost use Prim.Native.Nat.{_*_, _+_, _≤_};
+ghost use lib.ListN.{length};
+ghost use Rattle.trace.specs.Trace.{recordAt, cycleOf};
+ghost use Rattle.run.specs.Run.{ranTo, Ran};
+use header::HEAD;
+use header::RECORD;
+use header::refusal;
+use rules::Change;
+use rules::Cycle;
+use rules::Unit;
+use trace::count;
+use trace::decode;
+use unit::act;
+use unit::table;
+
+// The number that says that the buffer has no room for all answers.
+pub const NO_ROOM: u8 = 255;
+
+// The cycle of record n, of a trace that has it.
+fn cycle_at(trace: &[u8], n: usize) -> Cycle
+    requires { ⌜ 7 + 4 * n + 4 ≤ length (now trace) ⌝ }
+    ensures { λ c. ⌜ c ≡ cycleOf (recordAt (now (trace .entry)) n) ⌝ }
+{
+    let at = HEAD + RECORD * n;
+    decode(&trace[at..at + RECORD])
+}
+
+// The first `count` records, answered into the buffer. The turn ends with the change of the table in place.
+fn run_to(trace: &[u8], count: usize, out: &mut [u8])
+    requires { ⌜ (count ≤ 16000) × (7 + 4 * count ≤ length (now trace)) × (6 * count ≤ length (now out)) ⌝ }
+    ensures { λ _. ⌜ now (out .exit) ≡ ranTo (now (trace .entry)) count (now (out .entry)) ⌝ }
+{
+    let u = Unit::power_on();
+    let mut table = u.table;
+    let mut r = u.registers;
+    for n in 0..count {
+        let c = cycle_at(trace, n);
+        let i = (act::place_of(r, c) % Unit::SEGMENTS) as usize;
+        let d = table[i];
+        let p = act::act(r, d, c);
+        let a = p.answer;
+        pack::put(out, pack::BYTES * n, a);
+        let after = p.registers;
+        r = after;
+        let h = p.change;
+        match h {
+            Change::Keep => {}
+            Change::Put(e) => {
+                table[i] = e;
+            }
+            Change::Raise(mask) => {
+                table = table::mark_all(table, mask);
+            }
+        }
+    }
+}
+
+// The run of a trace from power-on: 0, and the answers of all records at the start of the buffer, six bytes for each. A refused trace
+// gives its number, a buffer that is too short gives NO_ROOM, and both leave the buffer as it was.
+pub fn run(trace: &[u8], out: &mut [u8]) -> u8
+    ensures { λ no. ⌜ Ran (now (trace .entry)) (now (out .entry)) (now (out .exit)) no ⌝ }
+{
+    let no = refusal(trace);
+    let refused = no != 0;
+    if refused {
+        return no;
+    }
+    let n = count(trace);
+    let narrow = out.len() < pack::BYTES * n;
+    if narrow {
+        return NO_ROOM;
+    }
+    run_to(trace, n, out);
+    0
+}
