@@ -11,6 +11,7 @@ pub mod coverage;
 pub mod cycle;
 pub mod generate;
 pub mod memory;
+pub mod packed;
 pub mod recording;
 pub mod script;
 pub mod step;

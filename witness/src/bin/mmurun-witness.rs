@@ -1,25 +1,23 @@
 //! `mmurun-witness`: document 01's `mmurun` on standard input and output.
-//! With `--silent N` it runs the trace N times from power-on and prints a
-//! checksum of all answers and the nanoseconds of one run.
+//! With `--packed N` it runs the trace N times from power-on and writes the
+//! answers of the last run in six bytes each: what the benchmark times.
 
+use std::hint::black_box;
 use std::io::{self, Read, Write};
 use std::process::ExitCode;
-use std::time::Instant;
 
-use witness::cycle::{Answer, Kind};
-use witness::step::Step;
+use witness::packed;
 use witness::text::Text;
 use witness::trace::{Layout, LONGEST};
-use witness::unit::Unit;
 use witness::Document01;
 
 fn main() -> ExitCode {
     let arguments: Vec<String> = std::env::args().skip(1).collect();
     let runs = match arguments.as_slice() {
         [] => None,
-        [mode, runs] if mode == "--silent" => match runs.parse() {
-            Ok(runs) if runs > 0 => Some(runs),
-            _ => return usage(),
+        [mode, runs] if mode == "--packed" => match runs.parse() {
+            Ok(runs) => Some(runs),
+            Err(_) => return usage(),
         },
         _ => return usage(),
     };
@@ -33,7 +31,7 @@ fn main() -> ExitCode {
 }
 
 fn usage() -> ExitCode {
-    eprintln!("usage: mmurun-witness [--silent RUNS] < trace");
+    eprintln!("usage: mmurun-witness [--packed RUNS] < trace");
     ExitCode::from(2)
 }
 
@@ -43,45 +41,22 @@ fn answer(runs: Option<u32>) -> io::Result<()> {
     io::stdin()
         .take(LONGEST as u64 + 1)
         .read_to_end(&mut trace)?;
-    let mut out = io::stdout();
-    match (runs, Document01::count(&trace)) {
-        (Some(runs), Ok(_)) => {
-            let start = Instant::now();
-            let checksum = silent(&trace, runs);
-            let nanoseconds = start.elapsed().as_nanos() / u128::from(runs);
-            writeln!(out, "checksum {checksum:016X} ns-per-run {nanoseconds}")
-        }
-        _ => out.write_all(&Document01::run(&trace)),
-    }
-}
-
-/// The checksum runs on from one run to the next, so none can be left out.
-fn silent(trace: &[u8], runs: u32) -> u64 {
-    let mut checksum = 0;
-    for _ in 0..runs {
-        let mut unit = Unit::power_on();
-        for cycle in Document01::cycles(trace) {
-            let answer = Document01::step(&mut unit, &cycle);
-            checksum = mix(checksum, &answer);
-        }
-    }
-    checksum
-}
-
-fn mix(checksum: u64, answer: &Answer) -> u64 {
-    let kind = match answer.kind {
-        Kind::Reset => 0,
-        Kind::Acknowledge => 1,
-        Kind::Command => 2,
-        Kind::AbortedFetch => 3,
-        Kind::Translated => 4,
-        Kind::Passed => 5,
-        Kind::Ignored => 6,
-        Kind::Refused(number) => 6 + u64::from(number),
+    let text = match runs {
+        Some(runs) => again(&trace, runs),
+        None => Document01::run(&trace),
     };
-    let address = answer.address.map_or(0, |value| 0x10000 | u64::from(value));
-    let data = answer.data.map_or(0, |value| 0x100 | u64::from(value));
-    let lines = u64::from(answer.sup) << 1 | u64::from(answer.trap);
-    let word = kind << 32 | lines << 28 | data << 17 | address;
-    (checksum.rotate_left(5) ^ word).wrapping_mul(0x9E37_79B9_7F4A_7C15)
+    io::stdout().write_all(&text)
+}
+
+/// A refused trace has no record, and so no answer.
+fn again(trace: &[u8], runs: u32) -> Vec<u8> {
+    let count = Document01::count(trace).unwrap_or(0);
+    let mut answers = vec![0; packed::BYTES * count];
+    if count > 0 {
+        for _ in 0..runs {
+            packed::run(black_box(trace), &mut answers);
+            black_box(&mut answers);
+        }
+    }
+    answers
 }

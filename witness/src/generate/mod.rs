@@ -2,6 +2,7 @@
 
 pub mod bus;
 pub mod malformed;
+pub mod mixes;
 pub mod programming;
 pub mod random;
 pub mod scenes;
