@@ -1,0 +1,36 @@
+-- `replay::run::replay` is safe and ends: each turn passes a line, and the buffer keeps its length. Assumes nothing.
+use mathlib.Core.Path.{_≡_}
+use Prim.Native.Nat.{_-_}
+use borrow.Author.Needs.{needs}
+use lib.ListN.{length}
+use Rattle.replay.proofs.run.replay.Statement.{statement}
+use Rattle.replay.proofs.run.replay.Tie as tie
+
+abbrev Inv-loop : tie.InvT-loop
+Inv-loop script out₀ unit₀ at₀ from₀ out unit at from = length out ≡ length out₀
+
+abbrev μ-loop : tie.MeasureT-loop
+μ-loop script out₀ unit₀ at₀ from₀ out unit at from = length script - from
+
+pub replay-spec : {M : Type 1} → statement M
+replay-spec =
+    tie.close
+    (tie.spec
+    Inv-loop
+    μ-loop
+    (λ c κs. search needs)
+    (λ c. search needs)
+    (λ c. search needs)
+    (λ c. search needs)
+    (λ c. search needs)
+    (λ c κs. search needs)
+    (λ c. search needs)
+    (λ c. search needs)
+    (λ c. search needs)
+    (λ c. search needs)
+    (λ c κs. search needs)
+    (λ c. search needs)
+    (λ c. search needs)
+    (λ c. search needs)
+    (λ c. search needs)
+    (λ c. search needs))
