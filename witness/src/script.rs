@@ -18,7 +18,7 @@ pub fn run(script: &str, step: Step) -> String {
     let mut unit = Unit::power_on();
     let mut text = String::new();
     for line in script.split_terminator('\n') {
-        if line.trim().is_empty() || line.starts_with('#') {
+        if line.is_empty() || line.starts_with('#') {
             text.push_str(line);
             text.push('\n');
         } else if let Some(new) = parse_unit(line) {
