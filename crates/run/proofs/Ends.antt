@@ -1,13 +1,20 @@
 -- The three ends of a run, and what its promise comes to.
 -- Assumes nothing.
-use mathlib.Core.Path.{_≡_, sym, _∙_}
-use mathlib.Core.Bool.{Bool}
+use mathlib.Core.Path.{_≡_, refl, sym, _∙_}
+use mathlib.Core.Bool.{Bool, true, false}
 use mathlib.Core.List.{List}
 use Prim.Native.Nat.{ℕ, _+_, _*_, _≤_}
+use native.Mathlib.Omega.{arith}
+use lib.Dec.{eqb}
 use lib.ListN.{length}
+use lib.Seq.{sets}
+use borrow.Author.Tests.{eqb-true, eqb-false, not-true, not-false, le-ltb}
 use Rattle.header.specs.Header.{refusalOf}
 use Rattle.header.proofs.Taken.{taken}
-use Rattle.trace.specs.Trace.{givenOf}
+use Rattle.pack.specs.Packed.{bytesOf}
+use Rattle.rules.specs.PowerOn.{powerOn}
+use Rattle.rules.specs.Runs.{answers}
+use Rattle.trace.specs.Trace.{givenOf, cyclesOf}
 use Rattle.trace.proofs.Within.{all-given}
 use Rattle.run.specs.Run.{numberBy, bufferBy, refused, narrow, Ran}
 
@@ -19,6 +26,25 @@ fits t e = rw (all-given t e) (taken t e)
 pub ends : (t l m : List ℕ) (number : ℕ) (r n : Bool) → refused t ≡ r → narrow t l ≡ n
     → number ≡ numberBy r n (refusalOf t) → m ≡ bufferBy r n t l → Ran t l m number
 ends t l m number r n e f says leaves = record { says = rw (e, f) says; leaves = rw (e, f) leaves }
+
+-- a buffer with room for the longest trace: the number is the trace's own, and the answers of a trace that is taken stand in the buffer
+module _ {t l m : List ℕ} {number : ℕ} (ran : Ran t l m number) (room : 96000 ≤ length l) where
+  wide : refusalOf t ≡ 0 → narrow t l ≡ false
+  wide e = le-ltb (length l) (6 * givenOf t) (omega (arith, fits t e .0))
+
+  by : (b : Bool) → refused t ≡ b → (number ≡ refusalOf t) × (refusalOf t ≡ 0 → m ≡ bufferBy false false t l)
+  by true e = (
+    rw e at (ran .says),
+    λ (z : refusalOf t ≡ 0). absurd (eqb-false (refusalOf t) 0 (not-true (eqb (refusalOf t) 0) e) z),
+  )
+  by false e =
+      let z : refusalOf t ≡ 0 = eqb-true (refusalOf t) 0 (not-false (eqb (refusalOf t) 0) e) in (
+        rw (e, wide z) at (ran .says) ∙ sym z,
+        λ (z : refusalOf t ≡ 0). rw (e, wide z) at (ran .leaves),
+      )
+
+  pub roomy : (number ≡ refusalOf t) × (refusalOf t ≡ 0 → m ≡ sets l 0 (bytesOf (answers powerOn (cyclesOf t))))
+  roomy = by (refused t) refl
 
 -- no second answer fits: neither another number nor another buffer
 pub only : (t l m k : List ℕ) (number other : ℕ) → Ran t l m number → Ran t l k other → (m ≡ k) × (number ≡ other)

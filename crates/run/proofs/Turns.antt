@@ -17,13 +17,9 @@ use Rattle.rules.specs.declared.Decision.{Decision}
 use Rattle.rules.specs.declared.Descriptor.{Descriptor}
 use Rattle.rules.specs.declared.Unit.{Unit}
 use Rattle.trace.specs.Trace.{recordAt, cycleOf, cyclesTo}
+use Rattle.stores.proofs.Laws.{sets-append}
 use Rattle.pack.specs.Packed.{packed, bytesOf}
 use Rattle.run.specs.Run.{ranTo}
-
--- ---- stores one after the other
-sets-append : (xs ys o : List ℕ) (i j : ℕ) → j ≡ i + length xs → sets (sets o i xs) j ys ≡ sets o i (xs ++ ys)
-sets-append [] ys o i j e = ap (λ (k : ℕ). sets o k ys) (e ∙ add-zero i)
-sets-append (x ∷ xs) ys o i j e = sets-append xs ys (set o i x) (suc i) j (omega (arith, e))
 
 -- ---- one cycle more
 answers-more : (cs : List Cycle) (u : Unit) (c : Cycle)
@@ -43,12 +39,12 @@ bytes-more [] a = refl
 bytes-more (x ∷ rest) a = ap (λ (r : List ℕ). packed x ++ r) (bytes-more rest a)
 
 -- ---- lengths
-bytes-length : (cs : List Cycle) (u : Unit) → length (bytesOf (answers u cs)) ≡ 6 * length cs
+pub bytes-length : (cs : List Cycle) (u : Unit) → length (bytesOf (answers u cs)) ≡ 6 * length cs
 unfolding bytesOf packed answers
 bytes-length [] u = refl
 bytes-length (c ∷ cs) u = let h : length (bytesOf (answers (after u c) cs)) ≡ 6 * length cs = bytes-length cs (after u c) in omega (arith, h)
 
-cycles-length : (t : List ℕ) (n : ℕ) → length (cyclesTo t n) ≡ n
+pub cycles-length : (t : List ℕ) (n : ℕ) → length (cyclesTo t n) ≡ n
 unfolding cyclesTo
 cycles-length t zero = refl
 cycles-length t (suc n) =
@@ -68,7 +64,8 @@ turn-bytes t o n =
     let cs : List Cycle = cyclesTo t n in
     let a : Answer = decision (unitAt t n) (cycleAt t n) .answer in
     let long : length (bytesOf (answers powerOn cs)) ≡ 6 * n = bytes-length cs powerOn ∙ ap (λ (k : ℕ). 6 * k) (cycles-length t n) in
-    sets-append (bytesOf (answers powerOn cs)) (packed a) o 0 (6 * n) (omega (arith, long))
+    ap (λ (k : ℕ). sets (ranTo t n o) k (packed a)) (omega (arith, long))
+    ∙ sets-append o 0 (bytesOf (answers powerOn cs)) (packed a)
     ∙ ap (λ (bs : List ℕ). sets o 0 bs) (sym (ap bytesOf (answers-more cs powerOn (cycleAt t n)) ∙ bytes-more (answers powerOn cs) a))
     ∙ ap (λ (k : ℕ). sets o 0 (bytesOf (answers powerOn (cyclesTo t k)))) (sym (add-one n))
 

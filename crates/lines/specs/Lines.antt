@@ -1,0 +1,18 @@
+-- The line of an answer, and the lines of many, read from answers that are packed in six bytes each (`packed` of the crate pack).
+use mathlib.Core.List.{List, [], _∷_, _++_}
+use Prim.Native.Nat.{ℕ, zero, suc, _+_}
+use lib.ListN.{getD, take, drop}
+use Rattle.rules.specs.Flags.{has}
+use Rattle.lines.specs.Fields.{space, opening, addressText, signals}
+
+-- the line of six bytes
+unfoldable pub lineOf : ℕ → (six : List ℕ) → List ℕ
+lineOf n p =
+    opening n (getD p 0 0) (getD p 1 0)
+    ++ (addressText (has (getD p 4 0) 1) (getD p 2 0) (getD p 3 0)
+    ++ (space ∷ signals (has (getD p 4 0) 2) (has (getD p 4 0) 4) (has (getD p 4 0) 8) (getD p 5 0)))
+
+-- k lines, numbered from n
+unfoldable pub linesOf : (n k : ℕ) → List ℕ → List ℕ
+linesOf n zero p = []
+linesOf n (suc k) p = lineOf n (take 6 p) ++ linesOf (n + 1) k (drop 6 p)

@@ -1,0 +1,4 @@
+pub mod ReadBack
+pub mod Whole
+pub mod Cut
+pub mod Sample

@@ -1,0 +1,37 @@
+// The text of a trace, as mmurun prints it, into a lent buffer.
+ghost use mathlib.Core.Path.{_≡_};
+ghost use lib.ListN.{length};
+ghost use Rattle.listing.specs.Listed.{Listed, Counts};
+use lines::put_head;
+use lines::put_lines;
+use lines::put_refusal;
+
+// The bytes that any text has room in: a first line of at most 12, and at most 25 for each of 16,000 records. The longest text is
+// that of 16,000 refused commands, 324,902 bytes.
+pub const ROOM: usize = 400012;
+
+// Zeros, with room for the answers of the longest trace. Its length is all that matters.
+fn zeros() -> [u8; 96000]
+    ensures { λ r. ⌜ 96000 ≡ length r ⌝ }
+{
+    [0; 96000]
+}
+
+// Fills the buffer with the text of the trace, and answers the text's length. A buffer that is shorter than ROOM is left as it was, and
+// the answer is 0.
+pub fn list(trace: &[u8], out: &mut [u8]) -> usize
+    ensures { λ r. ⌜ Listed (now (trace .entry)) (now (out .entry)) (now (out .exit)) r ⌝ }
+    ensures { λ r. ⌜ Counts r (now (out .exit)) ⌝ }
+{
+    if out.len() < ROOM {
+        return 0;
+    }
+    let mut packed = zeros();
+    let no = run::run(trace, &mut packed);
+    if no == 0 {
+        let count = trace::count(trace);
+        let p = put_head(out, count);
+        return put_lines(&packed, count, out, p);
+    }
+    put_refusal(out, no)
+}

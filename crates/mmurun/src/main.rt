@@ -1,0 +1,18 @@
+// mmurun: reads a trace from standard input, and writes the text that `listing` makes of it to standard output.
+use libc::STDIN_FILENO;
+use libc::STDOUT_FILENO;
+
+// Writes the text of the trace, by way of `text`. Where standard output is closed or fails, the rest is not written, and the program ends.
+fn show(trace: &[u8], text: &mut [u8]) {
+    let n = listing::list(trace, text);
+    io::write_all(STDOUT_FILENO, &text[..n]);
+}
+
+// The longest good trace has 64,007 bytes. Of a longer input the first 65,536 bytes are read, and their text is that of the whole
+// (`cut` in the proofs of `listing`).
+fn main() {
+    let mut trace = [0u8; 65536];
+    let n = io::read_full(STDIN_FILENO, &mut trace);
+    let mut text = [0u8; listing::ROOM];
+    show(&trace[..n], &mut text);
+}
