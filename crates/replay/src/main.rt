@@ -1,8 +1,6 @@
 // Reads a script from standard input, and writes what a unit answers to each of its cycles, with the registers and one descriptor after it.
 // A script has at most 65,536 bytes; of a longer one nothing is run, and one line says so.
-mod parse;
 mod run;
-mod show;
 
 use libc::STDIN_FILENO;
 use libc::STDOUT_FILENO;

@@ -1,13 +1,13 @@
 // A script, line by line, with the unit that its lines set and step.
 ghost use Prim.Native.Nat.{_≤_};
 ghost use lib.ListN.{length};
-use crate::parse;
-use crate::parse::Line;
-use crate::show;
 use rules::Cycle;
 use rules::Descriptor;
 use rules::Registers;
 use rules::Unit;
+use script::parse;
+use script::parse::Line;
+use script::show;
 use unit::step;
 
 // The unit after a line, and where its text ends.

@@ -1,9 +1,9 @@
 // What is decided in one cycle, from the registers and one descriptor.
 ghost use mathlib.Core.Path.{_≡_};
 ghost use Rattle.rules.specs.Step.{decided, placeOf};
-use crate::refusals;
-use crate::status;
 use commands::execute;
+use dispatch::refusals;
+use dispatch::status;
 use rules::Cycle;
 use rules::Decision;
 use rules::Descriptor;

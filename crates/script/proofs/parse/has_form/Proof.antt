@@ -1,9 +1,9 @@
--- `replay::parse::has_form` is safe and ends: the two lengths are equal, and each turn passes a byte. Assumes nothing.
+-- `script::parse::has_form` is safe and ends: the two lengths are equal, and each turn passes a byte. Assumes nothing.
 use Prim.Native.Nat.{_≤_, _-_}
 use borrow.Author.Needs.{needs}
 use lib.ListN.{length}
-use Rattle.replay.proofs.parse.has_form.Statement.{statement}
-use Rattle.replay.proofs.parse.has_form.Tie as tie
+use Rattle.script.proofs.parse.has_form.Statement.{statement}
+use Rattle.script.proofs.parse.has_form.Tie as tie
 
 abbrev Inv-loop : tie.InvT-loop
 Inv-loop line form i₀ i = i ≤ length form

@@ -1,9 +1,9 @@
--- `unit::status::acknowledge_byte` meets its contract: each answer follows from the tests on its way and what the calls ensure. Assumes nothing.
+-- `dispatch::status::acknowledge_byte` meets its contract: each answer follows from the tests on its way and what the calls ensure. Assumes nothing.
 use lib.Bits.{mask-lt}
 use Rattle.rules.specs.Status.{acknowledgeByte}
 use Rattle.rules.proofs.Bounds.{one-bit}
-use Rattle.unit.proofs.status.acknowledge_byte.Statement.{statement}
-use Rattle.unit.proofs.status.acknowledge_byte.Tie as tie
+use Rattle.dispatch.proofs.status.acknowledge_byte.Statement.{statement}
+use Rattle.dispatch.proofs.status.acknowledge_byte.Tie as tie
 
 pub acknowledge-byte-spec : {M : Type 1} → statement M
 unfolding acknowledgeByte

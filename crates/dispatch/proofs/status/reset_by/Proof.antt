@@ -1,8 +1,8 @@
--- `unit::status::reset_by` meets its contract: what the calls ensure, put together. Assumes nothing.
+-- `dispatch::status::reset_by` meets its contract: what the calls ensure, put together. Assumes nothing.
 use Rattle.rules.specs.Status.{resetBy}
 use borrow.Author.Needs.{needs}
-use Rattle.unit.proofs.status.reset_by.Statement.{statement}
-use Rattle.unit.proofs.status.reset_by.Tie as tie
+use Rattle.dispatch.proofs.status.reset_by.Statement.{statement}
+use Rattle.dispatch.proofs.status.reset_by.Tie as tie
 
 pub reset-by-spec : {M : Type 1} → statement M
 unfolding resetBy

@@ -1,8 +1,8 @@
--- `unit::status::by_status` meets its contract: each answer follows from the tests on its way and what the calls ensure. Assumes nothing.
+-- `dispatch::status::by_status` meets its contract: each answer follows from the tests on its way and what the calls ensure. Assumes nothing.
 use Rattle.rules.specs.Status.{byStatus}
 use borrow.Author.Needs.{needs}
-use Rattle.unit.proofs.status.by_status.Statement.{statement}
-use Rattle.unit.proofs.status.by_status.Tie as tie
+use Rattle.dispatch.proofs.status.by_status.Statement.{statement}
+use Rattle.dispatch.proofs.status.by_status.Tie as tie
 
 pub by-status-spec : {M : Type 1} → statement M
 unfolding byStatus

@@ -1,8 +1,8 @@
--- `unit::status::acknowledged` meets its contract: what the calls ensure, put together. Assumes nothing.
+-- `dispatch::status::acknowledged` meets its contract: what the calls ensure, put together. Assumes nothing.
 use Rattle.rules.specs.Status.{acknowledged}
 use borrow.Author.Needs.{needs}
-use Rattle.unit.proofs.status.acknowledged.Statement.{statement}
-use Rattle.unit.proofs.status.acknowledged.Tie as tie
+use Rattle.dispatch.proofs.status.acknowledged.Statement.{statement}
+use Rattle.dispatch.proofs.status.acknowledged.Tie as tie
 
 pub acknowledged-spec : {M : Type 1} → statement M
 unfolding acknowledged

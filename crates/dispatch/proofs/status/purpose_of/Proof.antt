@@ -1,9 +1,9 @@
--- `unit::status::purpose_of` meets its contract: each answer follows from the tests on its way and what the calls ensure. Assumes nothing.
+-- `dispatch::status::purpose_of` meets its contract: each answer follows from the tests on its way and what the calls ensure. Assumes nothing.
 use native.Mathlib.Omega.{arith}
 use borrow.Author.Tests.{ne-eqb, le-leb, lt-leb}
 use Rattle.rules.specs.Status.{purposeOf}
-use Rattle.unit.proofs.status.purpose_of.Statement.{statement}
-use Rattle.unit.proofs.status.purpose_of.Tie as tie
+use Rattle.dispatch.proofs.status.purpose_of.Statement.{statement}
+use Rattle.dispatch.proofs.status.purpose_of.Tie as tie
 
 pub purpose-of-spec : {M : Type 1} → statement M
 unfolding purposeOf
