@@ -18,7 +18,8 @@ use Rattle.listing.proofs.Whole.{printed-refused}
 
 -- of a list that is longer than any good trace, the length says nothing but that: only its header counts
 by-header : (unmarked other : Bool) (length count : ℕ) → 64007 < length
-    → refusalBy (ltb length 7) unmarked other (ltb 16000 count) (not (eqb length (7 + 4 * count))) ≡ refusalBy false unmarked other (ltb 16000 count) true
+    → refusalBy (ltb length 7) unmarked other (ltb 16000 count) (not (eqb length (7 + 4 * count)))
+    ≡ refusalBy false unmarked other (ltb 16000 count) true
 by-header unmarked other length count h =
     ap (λ (b : Bool). refusalBy b unmarked other (ltb 16000 count) (not (eqb length (7 + 4 * count)))) (le-ltb length 7 (omega arith))
     ∙ by unmarked other (ltb 16000 count) refl
@@ -28,7 +29,8 @@ by-header unmarked other length count h =
     by false true m e = refl
     by false false true e = refl
     by false false false e =
-        ap (λ (b : Bool). refusalBy false false false false (not b)) (ne-eqb length (7 + 4 * count) (λ (q : length ≡ 7 + 4 * count). omega (arith, ltb-false 16000 count e)))
+        ap (λ (b : Bool). refusalBy false false false false (not b))
+        (ne-eqb length (7 + 4 * count) (λ (q : length ≡ 7 + 4 * count). omega (arith, ltb-false 16000 count e)))
 
 module _ (k : ℕ) (t : List ℕ) (h : 64007 < k) (more : k < length t) where
   same : (i : ℕ) → i < 7 → getD (take k t) i 0 ≡ getD t i 0

@@ -7,7 +7,6 @@ use Prim.Native.Nat.{ℕ, suc, _+_, _*_, _≤_}
 use native.Mathlib.Omega.{arith}
 use lib.ListN.{length, drop}
 use lib.Seq.{sets, sets-eq}
-use Rattle.lines.specs.Fields.{opening, addressText, signals}
 use Rattle.lines.specs.Lines.{lineOf, linesOf}
 use Rattle.pack.specs.Packed.{flagsOf, packed, bytesOf}
 use Rattle.rules.specs.Flags.{has, with, flagIf}
@@ -25,7 +24,8 @@ use Rattle.listing.specs.Text.{line, lines}
 flags : (driven sup trap drives : Bool) → ℕ
 flags driven sup trap drives = with (with (with (flagIf driven 1) (flagIf sup 2)) (flagIf trap 4)) (flagIf drives 8)
 
-flags-back : (d s t v : Bool) → (has (flags d s t v) 1 ≡ d) × (has (flags d s t v) 2 ≡ s) × (has (flags d s t v) 4 ≡ t) × (has (flags d s t v) 8 ≡ v)
+flags-back : (d s t v : Bool) → (has (flags d s t v) 1 ≡ d) × (has (flags d s t v) 2 ≡ s)
+    × (has (flags d s t v) 4 ≡ t) × (has (flags d s t v) 8 ≡ v)
 unfolding flags
 flags-back true true true true = (refl, refl, refl, refl)
 flags-back true true true false = (refl, refl, refl, refl)

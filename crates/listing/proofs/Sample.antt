@@ -7,7 +7,8 @@ use Rattle.rules.specs.Checks.{rightsOf, outOfLength, warns}
 use Rattle.rules.specs.Codes.{commandOf}
 use Rattle.rules.specs.Commands.{given, controlled, programmed, entry, cleared, restarted, acted, executed, commanded}
 use Rattle.rules.specs.Entry.{byteOf, replaced, indexOf, nextCounter, nextSegment, moved, writtenBy}
-use Rattle.rules.specs.Memory.{seen, resumed, aborted, begun, untranslated, touched, touchedBy, noted, checked, accessed, memory}
+use Rattle.rules.specs.Memory.{seen, resumed, aborted, begun, untranslated, touched, touchedBy, noted, checked}
+use Rattle.rules.specs.Memory.{accessed, memory}
 use Rattle.rules.specs.Recording.{eventOf, busStatus, firstEntry, added, raised, recorded}
 use Rattle.rules.specs.Refusals.{damaged, outOfRange, plain, refused}
 use Rattle.rules.specs.Runs.{answers, final}

@@ -6,7 +6,6 @@ use mathlib.Core.List.{List, _++_}
 use Prim.Native.Nat.{ℕ, _+_, _*_, _<_, _≤_}
 use native.Mathlib.Nat.{zero-add}
 use native.Mathlib.Omega.{arith}
-use lib.Dec.{eqb, ltb}
 use lib.ListN.{length, take, drop}
 use lib.Seq.{sets, sets-eq, length-sets, length-take-le, take-at, drop-at}
 use borrow.Author.Tests.{lt-ltb, le-ltb, eq-eqb, ne-eqb}
@@ -33,8 +32,8 @@ unfolding printed
 printed-refused t ne = ap (λ (b : Bool). textBy b t) (ne-eqb (refusalOf t) 0 ne)
 
 -- the head and the lines of the answers that a run left in a buffer with room for them
-pub taken-text : (t z packed : List ℕ) (n : ℕ) → refusalOf t ≡ 0 → n ≡ givenOf t → packed ≡ sets z 0 (bytesOf (answers powerOn (cyclesOf t)))
-    → 6 * n ≤ length z → headText n ++ linesOf 0 n packed ≡ printed t
+pub taken-text : (t z packed : List ℕ) (n : ℕ) → refusalOf t ≡ 0 → n ≡ givenOf t
+    → packed ≡ sets z 0 (bytesOf (answers powerOn (cyclesOf t))) → 6 * n ≤ length z → headText n ++ linesOf 0 n packed ≡ printed t
 taken-text t z packed n e count stored room =
     let given = givenOf t in
     let fits : 6 * given ≤ length z = rw count at room in
@@ -67,8 +66,10 @@ module _ (t l : List ℕ) where
         (within, sym (length-take-le r m within)),
       )
 
--- What the contract of `list` says, put plainly: in a buffer of `room` bytes or more the text stands at the start, whole, and what follows it is as it was.
-pub listed : (t l m : List ℕ) (r : ℕ) → room ≤ length l → Listed t l m r → r ≤ length m → (take r m ≡ printed t) × (drop r m ≡ drop r l)
+-- What the contract of `list` says, put plainly: in a buffer of `room` bytes or more the text stands at the start, whole, and what
+-- follows it is as it was.
+pub listed : (t l m : List ℕ) (r : ℕ) → room ≤ length l → Listed t l m r → r ≤ length m
+    → (take r m ≡ printed t) × (drop r m ≡ drop r l)
 listed t l m r h w within =
     let text : m ≡ sets l 0 (printed t) = w .text ∙ ap (λ (b : Bool). filled b t l) (le-ltb (length l) room h) in
     let size : r ≡ length (printed t) = w .count ∙ ap (λ (b : Bool). lengthOf b t) (le-ltb (length l) room h) in

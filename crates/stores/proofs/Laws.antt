@@ -18,8 +18,16 @@ sets-append l i (v ∷ a) b =
 -- what is put after what was put
 pub then : {l a m b k : List ℕ} {at p q : ℕ} → Put l at a m p → Put m p b k q → Put l at (a ++ b) k q
 then {l} {a} {m} {b} {k} {at} {p} {q} f g = record {
-  stored = g .stored ∙ ap (λ (x : List ℕ). sets x p b) (f .stored) ∙ ap (λ (x : ℕ). sets (sets l at a) x b) (f .ends) ∙ sets-append l at a b;
-  ends = g .ends ∙ ap (λ (x : ℕ). x + length b) (f .ends) ∙ add-assoc at (length a) (length b) ∙ ap (λ (x : ℕ). at + x) (sym (length-append a b));
+  stored =
+      g .stored
+      ∙ ap (λ (x : List ℕ). sets x p b) (f .stored)
+      ∙ ap (λ (x : ℕ). sets (sets l at a) x b) (f .ends)
+      ∙ sets-append l at a b;
+  ends =
+      g .ends
+      ∙ ap (λ (x : ℕ). x + length b) (f .ends)
+      ∙ add-assoc at (length a) (length b)
+      ∙ ap (λ (x : ℕ). at + x) (sym (length-append a b));
 }
 
 -- nothing put
@@ -29,8 +37,16 @@ nothing l at = record { stored = refl; ends = sym (add-zero at) }
 -- what is left to put, once its first part has been put
 pub onward : {l a m b k : List ℕ} {at p q : ℕ} → Put l at (a ++ b) k q → Put l at a m p → Put m p b k q
 onward {l} {a} {m} {b} {k} {at} {p} {q} w f = record {
-  stored = w .stored ∙ sym (sets-append l at a b) ∙ ap (λ (x : ℕ). sets (sets l at a) x b) (sym (f .ends)) ∙ ap (λ (x : List ℕ). sets x p b) (sym (f .stored));
-  ends = w .ends ∙ ap (λ (x : ℕ). at + x) (length-append a b) ∙ sym (add-assoc at (length a) (length b)) ∙ ap (λ (x : ℕ). x + length b) (sym (f .ends));
+  stored =
+      w .stored
+      ∙ sym (sets-append l at a b)
+      ∙ ap (λ (x : ℕ). sets (sets l at a) x b) (sym (f .ends))
+      ∙ ap (λ (x : List ℕ). sets x p b) (sym (f .stored));
+  ends =
+      w .ends
+      ∙ ap (λ (x : ℕ). at + x) (length-append a b)
+      ∙ sym (add-assoc at (length a) (length b))
+      ∙ ap (λ (x : ℕ). x + length b) (sym (f .ends));
 }
 
 -- all is still to be put; nothing is left to be put

@@ -3,12 +3,12 @@
 use Prim.Native.Nat.{ℕ, _+_, _*_, _-_, _/_, _%_, _<_, _≤_}
 use native.Mathlib.Nat.{div-div-eq-div-mul, div-lt-iff-lt-mul, mod-eq-of-lt}
 use native.Mathlib.Omega.{arith}
-use mathlib.Core.Path.{_≡_, refl, sym, ap, _∙_}
+use mathlib.Core.Path.{_≡_, refl}
 use mathlib.Core.Bool.{Bool, true, false}
 use mathlib.Core.List.{List, [], _∷_, _++_}
-use lib.ListN.{length, getD}
+use lib.ListN.{getD}
 use lib.Dec.{leb}
-use borrow.Author.Tests.{leb-true, leb-false, le-leb, lt-leb}
+use borrow.Author.Tests.{leb-true, leb-false}
 use Rattle.text.specs.Digits.{place, decimal}
 
 -- the number that digits say, after `before`
@@ -16,14 +16,25 @@ abbrev value : (before : ℕ) → List ℕ → ℕ
 value before [] = before
 value before (d ∷ ds) = value (before * 10 + (d - 48)) ds
 
+-- `decimal` with its tests decided
+abbrev places : (e d c b : Bool) → ℕ → List ℕ
+places e d c b n =
+    place e (n / 10000 % 10)
+    ++ (place d (n / 1000 % 10)
+    ++ (place c (n / 100 % 10)
+    ++ (place b (n / 10 % 10)
+    ++ place true (n % 10))))
+
 -- the topmost place of a number below ten times its weight
 top : (n w : ℕ) → 0 < w → n < 10 * w → n / w % 10 ≡ n / w
 top n w pos h = mod-eq-of-lt (div-lt-iff-lt-mul pos .1 h)
 
 by : (n : ℕ) (e d c b : Bool) → leb 10000 n ≡ e → leb 1000 n ≡ d → leb 100 n ≡ c → leb 10 n ≡ b → n < 100000
-    → value 0 (place e (n / 10000 % 10) ++ (place d (n / 1000 % 10) ++ (place c (n / 100 % 10) ++ (place b (n / 10 % 10) ++ place true (n % 10))))) ≡ n
-by n true true true true p q r s h = omega (arith, top n 10000 (omega arith) h, div-div-eq-div-mul n 10 10, div-div-eq-div-mul n 100 10, div-div-eq-div-mul n 1000 10)
-by n false true true true p q r s h = omega (arith, top n 1000 (omega arith) (leb-false 10000 n p), div-div-eq-div-mul n 10 10, div-div-eq-div-mul n 100 10)
+    → value 0 (places e d c b n) ≡ n
+by n true true true true p q r s h =
+    omega (arith, top n 10000 (omega arith) h, div-div-eq-div-mul n 10 10, div-div-eq-div-mul n 100 10, div-div-eq-div-mul n 1000 10)
+by n false true true true p q r s h =
+    omega (arith, top n 1000 (omega arith) (leb-false 10000 n p), div-div-eq-div-mul n 10 10, div-div-eq-div-mul n 100 10)
 by n false false true true p q r s h = omega (arith, top n 100 (omega arith) (leb-false 1000 n q), div-div-eq-div-mul n 10 10)
 by n false false false true p q r s h = omega (arith, top n 10 (omega arith) (leb-false 100 n r))
 by n false false false false p q r s h = omega (arith, leb-false 10 n s)
@@ -39,7 +50,7 @@ unfolding decimal
 decimal-value n h = by n (leb 10000 n) (leb 1000 n) (leb 100 n) (leb 10 n) refl refl refl refl h
 
 first : (n : ℕ) (e d c b : Bool) → leb 10000 n ≡ e → leb 1000 n ≡ d → leb 100 n ≡ c → leb 10 n ≡ b → n < 100000 → 10 ≤ n
-    → 48 < getD (place e (n / 10000 % 10) ++ (place d (n / 1000 % 10) ++ (place c (n / 100 % 10) ++ (place b (n / 10 % 10) ++ place true (n % 10))))) 0 0
+    → 48 < getD (places e d c b n) 0 0
 first n true d c b p q r s h m = omega (arith, top n 10000 (omega arith) h, leb-true 10000 n p)
 first n false true c b p q r s h m = omega (arith, top n 1000 (omega arith) (leb-false 10000 n p), leb-true 1000 n q)
 first n false false true b p q r s h m = omega (arith, top n 100 (omega arith) (leb-false 1000 n q), leb-true 100 n r)

@@ -8,4 +8,10 @@ pub put-byte-spec : {M : Type 1} → statement M
 unfolding byteText
 put-byte-spec =
     tie.close
-    (tie.spec (λ c κs. search needs) (λ c. search needs) (λ c. simp (c .before .before .before .before .if1 .taken) (c .before .before .put-two .ensures)) (λ c κs. search needs) (λ c. search needs) (λ c. simp (c .before .before .before .before .if1 .left) (c .before .before .put-dashes .ensures)))
+    (tie.spec
+    (λ c κs. search needs)
+    (λ c. search needs)
+    (λ c. simp (c .before .before .before .before .if1 .taken) (c .before .before .put-two .ensures))
+    (λ c κs. search needs)
+    (λ c. search needs)
+    (λ c. simp (c .before .before .before .before .if1 .left) (c .before .before .put-dashes .ensures)))

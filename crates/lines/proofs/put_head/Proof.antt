@@ -16,8 +16,16 @@ returns c =
     let at4 = at5 .before .before .before .before in
     let at3 = at4 .before .before .before .before in
     let at2 = at3 .before .before .before .before in
-    let at1 = at2 .before .before .before .before in
-    (then (at1 .put .ensures .0) (then (at2 .put2 .ensures .0) (then (at3 .put3 .ensures .0) (then (at4 .put4 .ensures .0) (then (at5 .put5 .ensures .0) (then (at6 .put6 .ensures .0) (then (at7 .put-decimal .ensures .0) (at8 .put7 .ensures .0))))))), omega (arith, at1 .put .ensures .1))
+    let at1 = at2 .before .before .before .before in (
+      then (at1 .put .ensures .0)
+          (then (at2 .put2 .ensures .0)
+          (then (at3 .put3 .ensures .0)
+          (then (at4 .put4 .ensures .0)
+          (then (at5 .put5 .ensures .0)
+          (then (at6 .put6 .ensures .0)
+          (then (at7 .put-decimal .ensures .0) (at8 .put7 .ensures .0))))))),
+      omega (arith, at1 .put .ensures .1),
+    )
 
 pub put-head-spec : {M : Type 1} → statement M
 put-head-spec =

@@ -100,7 +100,8 @@ abbrev cycleHere : Joined → Cycle
 cycleHere c = cycleAt (begun c .before .before .before .before .before .before .args .trace .now) (begun c .loop .n)
 
 add-n : tie.Need-add-n Inv-loop μ-loop
-add-n c = search (needs, begun c .loop .inv .0, begun c .loop .inv .1, c .before .before .before .before .before .before .before .before .before .before .before .loop-test .taken)
+add-n c =
+    search (needs, begun c .loop .inv .0, begun c .loop .inv .1, c .before .before .before .before .before .before .before .before .before .before .before .loop-test .taken)
 
 loop-less : tie.Need-loop-less Inv-loop μ-loop
 loop-less c = search needs
@@ -122,7 +123,8 @@ act-decides c =
     let r = begun c .loop .r in
     let x : Cycle = c .before .before .before .before .before .before .before .before .before .before .cycle-at .result in
     c .before .before .before .before .before .before .before .act .ensures
-    ∙ ap (λ (k : ℕ). decided r (getD (begun c .loop .table) (k % 64) none) x) (c .before .before .before .before .before .before .before .before .before .place-of .ensures)
+    ∙ ap (λ (k : ℕ). decided r (getD (begun c .loop .table) (k % 64) none) x)
+    (c .before .before .before .before .before .before .before .before .before .place-of .ensures)
     ∙ ap (decision (was c)) (c .before .before .before .before .before .before .before .before .before .before .cycle-at .ensures)
 
 loop-again : tie.Need-loop-again Inv-loop μ-loop

@@ -7,4 +7,10 @@ use Rattle.text.proofs.digit_of.Tie as tie
 
 pub digit-of-spec : {M : Type 1} → statement M
 unfolding digit
-digit-of-spec = tie.close (tie.spec (λ c. search needs) (λ c. search needs) (λ c. simp (lt-ltb _ _ (c .if1 .taken))) (λ c. simp (le-ltb _ _ (c .if1 .left))))
+digit-of-spec =
+    tie.close
+    (tie.spec
+    (λ c. search needs)
+    (λ c. search needs)
+    (λ c. simp (lt-ltb _ _ (c .if1 .taken)))
+    (λ c. simp (le-ltb _ _ (c .if1 .left))))

@@ -12,8 +12,13 @@ returns c =
     let at4 = at5 .before .before .before .before in
     let at3 = at4 .before .before .before .before in
     let at2 = at3 .before .before .before .before in
-    let at1 = at2 .before .before .before .before in
-    (then (at1 .put-place .ensures .0) (then (at2 .put-place2 .ensures .0) (then (at3 .put-place3 .ensures .0) (then (at4 .put-place4 .ensures .0) (at5 .put-place5 .ensures .0)))), search needs)
+    let at1 = at2 .before .before .before .before in (
+      then (at1 .put-place .ensures .0)
+          (then (at2 .put-place2 .ensures .0)
+          (then (at3 .put-place3 .ensures .0)
+          (then (at4 .put-place4 .ensures .0) (at5 .put-place5 .ensures .0)))),
+      search needs,
+    )
 
 pub put-decimal-spec : {M : Type 1} → statement M
 put-decimal-spec =

@@ -1,5 +1,5 @@
 -- `trace::part` meets its contract: a record that is not refused lies within the trace. Assumes nothing.
-use mathlib.Core.Path.{sym, ap, _∙_}
+use mathlib.Core.Path.{_≡_, sym, ap, _∙_}
 use mathlib.Core.Bool.{Bool}
 use Prim.Native.Nat.{ℕ, _+_, _*_, _<_, _≤_}
 use native.Mathlib.Nat.{add-sub-cancel-left}
@@ -7,7 +7,7 @@ use denote.Ref.{now}
 use lib.Dec.{eqb}
 use lib.ListN.{length, take, drop}
 use borrow.Author.Tests.{eqb-true}
-use Rattle.trace.specs.Trace.{recordAt, partBy, partOf}
+use Rattle.trace.specs.Trace.{recordRefusalOf, recordAt, partBy, partOf}
 use Rattle.trace.proofs.Within.{record-within}
 use borrow.Author.Needs.{needs}
 use Rattle.trace.proofs.part.Statement.{statement}
@@ -33,6 +33,11 @@ add-result c = let h = here c in search needs
 part-result-end : tie.Need-part-result-end
 part-result-end c = let h = here c in search needs
 
+-- the test, as the definition has it
+tested : (c : tie.After-record-refusal) → eqb (recordRefusalOf (now (c .before .before .args .trace)) (c .before .before .args .n)) 0
+    ≡ eqb (c .record-refusal .result) 0
+tested c = ap (λ (k : ℕ). eqb k 0) (sym (c .record-refusal .ensures))
+
 returns : tie.Need-returns
 unfolding partOf
 returns c =
@@ -40,14 +45,13 @@ returns c =
     let n = start .n in
     let t = now (start .trace) in
     ap (λ (k : ℕ). take k (drop (7 + 4 * n) t)) (add-sub-cancel-left (7 + 4 * n) 4)
-    ∙ sym (ap (λ (b : Bool). partBy b (recordAt t n)) (ap (λ (k : ℕ). eqb k 0) (sym (c .before .before .record-refusal .ensures)) ∙ c .before .if1 .taken))
+    ∙ sym (ap (λ (b : Bool). partBy b (recordAt t n)) (tested (c .before .before) ∙ c .before .if1 .taken))
 
 returns-2 : tie.Need-returns-2
 unfolding partOf
 returns-2 c =
     let start = c .before .before .before .before .args in
-    sym (ap (λ (b : Bool). partBy b (recordAt (now (start .trace)) (start .n)))
-    (ap (λ (k : ℕ). eqb k 0) (sym (c .before .before .record-refusal .ensures)) ∙ c .before .if1 .left))
+    sym (ap (λ (b : Bool). partBy b (recordAt (now (start .trace)) (start .n))) (tested (c .before .before) ∙ c .before .if1 .left))
 
 pub part-spec : {M : Type 1} → statement M
 part-spec =
