@@ -1,0 +1,16 @@
+-- `trace::decode` meets its contract: what the calls ensure, put together. Assumes nothing.
+use Rattle.trace.specs.Trace.{cycleOf}
+use borrow.Author.Needs.{needs}
+use Rattle.trace.proofs.decode.Statement.{statement}
+use Rattle.trace.proofs.decode.Tie as tie
+
+pub decode-spec : {M : Type 1} → statement M
+unfolding cycleOf
+decode-spec =
+    tie.close
+    (tie.spec
+    (λ c κs. search needs)
+    (λ c κs. search needs)
+    (λ c κs. search needs)
+    (λ c κs. search needs)
+    (λ c. cc))

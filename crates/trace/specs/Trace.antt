@@ -1,0 +1,59 @@
+-- Document 01, "The trace": the records of a trace and their cycles; and the number 9 of "Numbers that say no".
+use mathlib.Core.Bool.{Bool, true, false, not, cond}
+use mathlib.Core.List.{List, [], _∷_, _++_}
+use Prim.Native.Nat.{ℕ, zero, suc, _+_, _*_, _%_}
+use lib.Dec.{eqb, leb}
+use lib.ListN.{getD, take, drop}
+use Rattle.header.specs.Header.{countOf, refusalOf}
+use Rattle.rules.specs.Flags.{has}
+use Rattle.rules.specs.declared.Cycle.{Cycle}
+
+-- how many records a trace gives: its count, and "no record" where it is refused
+unfoldable pub givenOf : List ℕ → ℕ
+givenOf t = cond (eqb (refusalOf t) 0) (countOf t) 0
+
+-- "9: record number at or past the count", after the trace's own number
+abbrev pub recordRefusalBy : (refused past : Bool) → (number : ℕ) → ℕ
+recordRefusalBy true past number = number
+recordRefusalBy false true number = 9
+recordRefusalBy false false number = 0
+
+-- the number that refuses record n
+unfoldable pub recordRefusalOf : List ℕ → (n : ℕ) → ℕ
+recordRefusalOf t n = recordRefusalBy (not (eqb (refusalOf t) 0)) (leb (countOf t) n) (refusalOf t)
+
+-- "Record n is the four bytes that start at 7 + 4n"
+abbrev pub recordAt : List ℕ → (n : ℕ) → List ℕ
+recordAt t n = take 4 (drop (7 + 4 * n) t)
+
+-- "shown to the caller as that part of the trace", and "no record" is the empty part
+abbrev pub partBy : (given : Bool) → List ℕ → List ℕ
+partBy true part = part
+partBy false part = []
+
+unfoldable pub partOf : List ℕ → (n : ℕ) → List ℕ
+partOf t n = partBy (eqb (recordRefusalOf t n) 0) (recordAt t n)
+
+-- "Byte 0: bits 0 to 5 as BCSR, bit 6 DMA, bit 7 select. Byte 1: segment, bit 7 reset line. Byte 2: address-phase byte.
+-- Byte 3: data, any value." BCSR has the status in bits 0 to 3, "bit 4 set for read, bit 5 set for normal mode"
+unfoldable pub cycleOf : (part : List ℕ) → Cycle
+cycleOf p = record {
+  status = getD p 0 0 % 16;
+  read = has (getD p 0 0) 16;
+  normal = has (getD p 0 0) 32;
+  dma = has (getD p 0 0) 64;
+  select = has (getD p 0 0) 128;
+  segment = getD p 1 0 % 128;
+  reset = has (getD p 1 0) 128;
+  offset = getD p 2 0;
+  byte = getD p 3 0;
+}
+
+-- the cycles of the first n records
+unfoldable pub cyclesTo : List ℕ → (n : ℕ) → List Cycle
+cyclesTo t zero = []
+cyclesTo t (suc n) = cyclesTo t n ++ (cycleOf (recordAt t n) ∷ [])
+
+-- the cycles of all records that a trace gives
+abbrev pub cyclesOf : List ℕ → List Cycle
+cyclesOf t = cyclesTo t (givenOf t)
