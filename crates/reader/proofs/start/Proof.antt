@@ -35,7 +35,7 @@ use denote.Triple.Spec.{Meets, tripleOf}
 use denote.Triple.Table.{entered}
 use denote.Triple.Walked.{says, Stays, stay-none-slice, walkOf, goes-none-slice, Walks, ends-at, walked, walk-meets}
 use denote.Exit.{yes}
-use Rattle.reader.specs.Reading.{startOf}
+use Rattle.reader.specs.declared.Reader.{Reader}
 use Rattle.reader.proofs.Reader as T
 use Rattle.reader.proofs.Reader.Laws as T′
 use Rattle.reader.proofs.Held.{α, Part, trace-val}
@@ -53,6 +53,9 @@ module _ {M : Type 1} (𝓤 : URA M) (H : Heap 𝓤) (A : Atoms 𝓤) (W : Given
   abbrev v : Val
   v = trace-val s
 
+  abbrev made : Reader
+  made = record { trace = s; next = 0 }
+
   abbrev at : List Val × Unit {0}
   at = (v ∷ [], tt)
 
@@ -62,11 +65,11 @@ module _ {M : Type 1} (𝓤 : URA M) (H : Heap 𝓤) (A : Atoms 𝓤) (W : Given
   abbrev Own : Fml
   Own = Part κ .own s (v ∷ [])
 
-  exits : ent 𝓤 (onEntry 𝓤 H A start.signature (κ, tt) (q, tt) (s, tt) at) (Post (T′.lowered (startOf s)))
+  exits : ent 𝓤 (onEntry 𝓤 H A start.signature (κ, tt) (q, tt) (s, tt) at) (Post (T′.lowered made))
   exits =
       qed W ((‵ (flft κ q) ⊛ ‵ ftrue) ∷ ‵ (owns (Part κ ∷ []) (s, tt) at) ∷ []) ∵
       suffices ! _ (ends-at 𝓤 H A start.ended stayed (start.clauses 𝓤 H A mem run) W (((κ, tt), (q, tt), tt, (s, tt), at), tt)
-      (T′.lowered (startOf s)) (startOf s) (tt, tt) (tt, tt)) $
+      (T′.lowered made) made (tt, tt) (tt, tt)) $
       says ! refl $
       frame ! $ fsplit ! $ use1 W (‵ Own ⊛ ‵ Own) (shr-slice-copy 𝓤 H A W (named 0) κ u8 .twice s (v ∷ [])) $ split ! $
       move ! (0 ∷ 2 ∷ []) $ fjoin ! $ frame ! $
