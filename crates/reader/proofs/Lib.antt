@@ -1,0 +1,4 @@
+pub mod Held
+pub mod Started
+pub mod Within
+pub mod Only
