@@ -80,7 +80,3 @@ listed t l m r h w within =
       ap (take r) parts ∙ take-at (printed t) (drop (0 + length (printed t)) l) r (sym size),
       ap (drop r) parts ∙ drop-at (printed t) (drop (0 + length (printed t)) l) r (sym size) ∙ ap (λ (k : ℕ). drop k l) at,
     )
-
--- no second answer fits
-pub only : (t l m n : List ℕ) (r s : ℕ) → Listed t l m r → Listed t l n s → (m ≡ n) × (r ≡ s)
-only t l m n r s a b = (a .text ∙ sym (b .text), a .count ∙ sym (b .count))
