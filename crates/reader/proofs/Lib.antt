@@ -1,3 +1,4 @@
+pub mod Gives
 pub mod Held
 pub mod Started
 pub mod Within
