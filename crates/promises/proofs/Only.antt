@@ -4,9 +4,10 @@
 use mathlib.Core.Path.{_≡_, sym, _∙_}
 use mathlib.Core.List.{List}
 use Prim.Native.Nat.{ℕ}
+use denote.Ref.{RefT, now}
 use Rattle.header.specs.Header.{refusalOf}
 use Rattle.listing.specs.Listed.{Listed}
-use Rattle.reader.specs.Reading.{stepOf, foundOf, movedOf}
+use Rattle.reader.specs.Reading.{startOf, stepOf, foundOf, movedOf}
 use Rattle.reader.specs.declared.Found.{Found}
 use Rattle.reader.specs.declared.Reader.{Reader}
 use Rattle.reader.specs.declared.Step.{Step}
@@ -71,12 +72,15 @@ part-only t n = only
 pub decode-only : (part : List ℕ) {x y : Cycle} → x ≡ cycleOf part → y ≡ cycleOf part → x ≡ y
 decode-only part = only
 
+pub start-only : (t : RefT (List ℕ)) {x y : Reader} → x ≡ startOf t → y ≡ startOf t → x ≡ y
+start-only t = only
+
 -- what a reader gives, and the reader in the lent place
-pub next-only : (t : List ℕ) (r : Reader) {x y : Step} {q s : Reader}
-    → (x ≡ stepOf t (r .next)) × (q ≡ movedOf r)
-    → (y ≡ stepOf t (r .next)) × (s ≡ movedOf r)
-    → (x ≡ y) × (q ≡ s)
-next-only t r p q = (only (p .0) (q .0), only (p .1) (q .1))
+pub next-only : (d : Reader) {s t : Step} {x y : Reader}
+    → (s ≡ stepOf (now (d .trace)) (d .next)) × (x ≡ movedOf d)
+    → (t ≡ stepOf (now (d .trace)) (d .next)) × (y ≡ movedOf d)
+    → (s ≡ t) × (x ≡ y)
+next-only d p q = (only (p .0) (q .0), only (p .1) (q .1))
 
 pub read-at-only : (t : List ℕ) (n : ℕ) {x y : Found} → x ≡ foundOf t n → y ≡ foundOf t n → x ≡ y
 read-at-only t n = only

@@ -1,4 +1,4 @@
+pub mod Gives
 pub mod Held
 pub mod Started
 pub mod Within
-pub mod Only

@@ -1,7 +1,7 @@
 -- Document 01, "The trace": a reader of a trace, and what it gives.
 use mathlib.Core.Bool.{Bool, true, false, cond}
-use mathlib.Core.List.{List}
-use Prim.Native.Nat.{ℕ, _+_}
+use mathlib.Core.List.{List, [], _∷_, _++_}
+use Prim.Native.Nat.{ℕ, zero, suc, _+_}
 use lib.Dec.{eqb}
 use denote.Ref.{RefT, now}
 use Rattle.rules.specs.declared.Cycle.{Cycle}
@@ -35,3 +35,13 @@ foundOf t n = record { step = stepOf t n; next = afterOf t n }
 -- the reader after it was asked for its next record: the same lent trace, whole, and the number after it
 abbrev pub movedOf : Reader → Reader
 movedOf r = record { trace = r .trace; next = afterOf (now (r .trace)) (r .next) }
+
+-- the number of a reader that was asked so many times from its start
+unfoldable pub numberAfter : List ℕ → (asked : ℕ) → ℕ
+numberAfter t zero = 0
+numberAfter t (suc k) = afterOf t (numberAfter t k)
+
+-- what it answered, one after another
+unfoldable pub answersTo : List ℕ → (asked : ℕ) → List Step
+answersTo t zero = []
+answersTo t (suc k) = answersTo t k ++ (stepOf t (numberAfter t k) ∷ [])
