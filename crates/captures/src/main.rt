@@ -68,6 +68,7 @@ fn mix(trace: &[u8], out: &mut [u8])
     if count == 0 {
         return;
     }
+    // the header: the mark, version 1, count 16,000
     put_record(b"MBT\x00", out, 0);
     put_record(b"\x00\x01\x3E\x80", out, 3);
     let mut x: usize = 1;
