@@ -1,5 +1,5 @@
-// Lists stored captures as mmurun would: each refusal of a trace, a trace with no record, one that meets every kind of answer and every
-// row of the recording that a run from power-on can meet, and one of 16,000 records.
+// Lists the captures that its arguments name, as mmurun would: each refusal of a trace, a trace with no record, and `every`, which meets
+// every kind of answer and every row of the recording that a run from power-on can meet. Then 16,000 records picked from `every`.
 ghost use Prim.Native.Nat.{_+_, _≤_};
 ghost use mathlib.Core.Path.{_≡_};
 ghost use lib.ListN.{length};
@@ -21,13 +21,21 @@ fn read(path: &[u8], into: &mut [u8]) -> usize
     n
 }
 
-// A capture's name and its text.
-fn show(path: &[u8], trace: &mut [u8], text: &mut [u8]) {
-    let n = read(path, trace);
-    let k = listing::list(&trace[..n], text);
-    io::write_all(STDOUT_FILENO, path);
+// The name and the text of the capture that argument i names.
+fn show(i: usize, path: &mut [u8], trace: &mut [u8], text: &mut [u8]) {
+    let k = os::arg(i, path);
+    let n = read(&path[..k], trace);
+    let m = listing::list(&trace[..n], text);
+    io::write_all(STDOUT_FILENO, &path[..k]);
     io::write_all(STDOUT_FILENO, b"\n");
-    io::write_all(STDOUT_FILENO, &text[..k]);
+    io::write_all(STDOUT_FILENO, &text[..m]);
+}
+
+// The same for all arguments.
+fn show_all(path: &mut [u8], trace: &mut [u8], text: &mut [u8]) {
+    for i in 1..os::arg_count() {
+        show(i, path, trace, text);
+    }
 }
 
 // The Adler-32 checksum of the bytes.
@@ -60,6 +68,7 @@ fn mix(trace: &[u8], out: &mut [u8])
     if count == 0 {
         return;
     }
+    // the header: the mark, version 1, count 16,000
     put_record(b"MBT\x00", out, 0);
     put_record(b"\x00\x01\x3E\x80", out, 3);
     let mut x: usize = 1;
@@ -69,13 +78,13 @@ fn mix(trace: &[u8], out: &mut [u8])
     }
 }
 
-// The length and the checksum of the text of a mixed trace.
-fn show_mixed(trace: &[u8], mixed: &mut [u8], text: &mut [u8])
+// The length and the checksum of the text of 16,000 records from `every`.
+fn show_mixed(trace: &mut [u8], mixed: &mut [u8], text: &mut [u8])
     requires { ⌜ 64007 ≤ length (now mixed) ⌝ }
 {
-    mix(trace, mixed);
+    let n = read(b"every", trace);
+    mix(&trace[..n], mixed);
     let k = listing::list(mixed, text);
-    io::write_all(STDOUT_FILENO, b"mixed\n");
     io::print_decimal(STDOUT_FILENO, k as u64);
     io::write_all(STDOUT_FILENO, b" ");
     io::print_decimal(STDOUT_FILENO, adler(&text[..k]));
@@ -83,16 +92,10 @@ fn show_mixed(trace: &[u8], mixed: &mut [u8], text: &mut [u8])
 }
 
 fn main() {
-    let mut trace = [0u8; 65536];
+    let mut path = io::buffer();
+    let mut trace = io::large_buffer();
     let mut mixed = [0u8; 64007];
     let mut text = [0u8; listing::ROOM];
-    show(b"short", &mut trace, &mut text);
-    show(b"mark", &mut trace, &mut text);
-    show(b"version", &mut trace, &mut text);
-    show(b"count", &mut trace, &mut text);
-    show(b"length", &mut trace, &mut text);
-    show(b"none", &mut trace, &mut text);
-    show(b"every", &mut trace, &mut text);
-    let n = read(b"every", &mut trace);
-    show_mixed(&trace[..n], &mut mixed, &mut text);
+    show_all(&mut path, &mut trace, &mut text);
+    show_mixed(&mut trace, &mut mixed, &mut text);
 }

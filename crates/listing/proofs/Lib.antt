@@ -1,4 +1,5 @@
 pub mod ReadBack
 pub mod Whole
 pub mod Cut
+pub mod Refused
 pub mod Sample

@@ -11,7 +11,7 @@ fn show(trace: &[u8], text: &mut [u8]) {
 // The longest good trace has 64,007 bytes. Of a longer input the first 65,536 bytes are read, and their text is that of the whole
 // (`cut` in the proofs of `listing`).
 fn main() {
-    let mut trace = [0u8; 65536];
+    let mut trace = io::large_buffer();
     let n = io::read_full(STDIN_FILENO, &mut trace);
     let mut text = [0u8; listing::ROOM];
     show(&trace[..n], &mut text);
