@@ -45,7 +45,3 @@ module _ {t l m : List ℕ} {number : ℕ} (ran : Ran t l m number) (room : 9600
 
   pub roomy : (number ≡ refusalOf t) × (refusalOf t ≡ 0 → m ≡ sets l 0 (bytesOf (answers powerOn (cyclesOf t))))
   roomy = by (refused t) refl
-
--- no second answer fits: neither another number nor another buffer
-pub only : (t l m k : List ℕ) (number other : ℕ) → Ran t l m number → Ran t l k other → (m ≡ k) × (number ≡ other)
-only t l m k number other a b = (a .leaves ∙ sym (b .leaves), a .says ∙ sym (b .says))
