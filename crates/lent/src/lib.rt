@@ -7,7 +7,7 @@ use rules::Stepped;
 use rules::Unit;
 use unit::step::step;
 
-// One cycle of a unit that the caller lends: its answer, with the unit after the cycle in its place.
+// One cycle of a unit that the caller lends: its answer, with the unit after the cycle in its place. A refusal leaves what stood there.
 pub fn step_in_place(u: &mut Unit, c: Cycle) -> Answer
     ensures { λ a. ⌜ (a ≡ stepped (now (u .entry)) c .answer) × (now (u .exit) ≡ stepped (now (u .entry)) c .unit) ⌝ }
 {

@@ -19,6 +19,7 @@ pub struct Found {
     pub next: usize,
 }
 
+// The lent trace and the number of its next record, kept together.
 pub struct Reader<'a> {
     pub trace: &'a [u8],
     pub next: usize,
@@ -66,8 +67,8 @@ pub fn shown<'a>(r: Reader<'a>) -> &'a [u8]
     part(r.trace, r.next)
 }
 
-// A reader of the trace, put to number n and asked once: what it gives, and its number after. Its parameters are plain, so whoever calls
-// it needs no proof by hand; the number it hands back is that of the next call.
+// A reader of the trace, put to number n and asked once: what it gives, and its number after, at which it can be taken up again. Its
+// parameters are plain, so whoever calls it needs no proof by hand.
 pub fn read_at(trace: &[u8], n: usize) -> Found
     ensures { λ g. ⌜ g ≡ foundOf (now (trace .entry)) n ⌝ }
 {
