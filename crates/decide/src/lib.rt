@@ -1,7 +1,7 @@
 // What is decided in one cycle, from the registers and one descriptor.
 ghost use mathlib.Core.Path.{_≡_};
 ghost use Rattle.rules.specs.Step.{decided, placeOf};
-use commands::execute;
+use commands::single;
 use dispatch::refusals;
 use dispatch::status;
 use rules::Cycle;
@@ -16,11 +16,11 @@ pub fn act(r: Registers, d: Descriptor, c: Cycle) -> Decision
 {
     let broken = refusals::damaged(r);
     if broken {
-        return execute::refused(2, r);
+        return single::refused(2, r);
     }
     let outside = refusals::out_of_range(c);
     if outside {
-        return execute::refused(1, r);
+        return single::refused(1, r);
     }
     let reset = c.reset;
     if reset {

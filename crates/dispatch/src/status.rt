@@ -2,7 +2,8 @@
 ghost use mathlib.Core.Path.{_≡_};
 ghost use Rattle.rules.specs.Status.{resetBy, acknowledgeByte, quieted, acknowledged, ignored, purposeOf, byStatus};
 use access::memory;
-use commands::execute;
+use codes::execute;
+use commands::single;
 use rules::Answer;
 use rules::Change;
 use rules::Cycle;
@@ -20,7 +21,7 @@ pub fn reset_by(select: bool, r: Registers) -> Decision
     ensures { λ p. ⌜ p ≡ resetBy select r ⌝ }
 {
     let mr = flags::flag_if(select, Unit::MSEN);
-    execute::plain(Kind::Reset, execute::restarted(r, mr), Change::Keep)
+    single::plain(Kind::Reset, single::restarted(r, mr), Change::Keep)
 }
 
 // The byte that an acknowledge drives: 2^ID while the request stands, else 0.
@@ -66,7 +67,7 @@ fn acknowledged(r: Registers) -> Decision
 fn ignored(r: Registers) -> Decision
     ensures { λ p. ⌜ p ≡ ignored r ⌝ }
 {
-    execute::plain(Kind::Ignored, r, Change::Keep)
+    single::plain(Kind::Ignored, r, Change::Keep)
 }
 
 // What the status asks for.

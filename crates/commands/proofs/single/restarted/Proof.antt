@@ -1,8 +1,8 @@
--- `commands::execute::restarted` meets its contract: what the calls ensure, put together. Assumes nothing.
+-- `commands::single::restarted` meets its contract: what the calls ensure, put together. Assumes nothing.
 use Rattle.rules.specs.Commands.{restarted, controlled, cleared}
 use borrow.Author.Needs.{needs}
-use Rattle.commands.proofs.execute.restarted.Statement.{statement}
-use Rattle.commands.proofs.execute.restarted.Tie as tie
+use Rattle.commands.proofs.single.restarted.Statement.{statement}
+use Rattle.commands.proofs.single.restarted.Tie as tie
 
 pub restarted-spec : {M : Type 1} → statement M
 unfolding restarted controlled cleared

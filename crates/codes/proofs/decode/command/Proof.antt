@@ -1,8 +1,8 @@
--- `commands::decode::command` meets its contract: each answer follows from the tests on its way and what the calls ensure. Assumes nothing.
+-- `codes::decode::command` meets its contract: each answer follows from the tests on its way and what the calls ensure. Assumes nothing.
 use borrow.Author.Tests.{ne-eqb}
 use Rattle.rules.specs.Codes.{commandOf}
-use Rattle.commands.proofs.decode.command.Statement.{statement}
-use Rattle.commands.proofs.decode.command.Tie as tie
+use Rattle.codes.proofs.decode.command.Statement.{statement}
+use Rattle.codes.proofs.decode.command.Tie as tie
 
 pub command-spec : {M : Type 1} → statement M
 unfolding commandOf

@@ -1,8 +1,8 @@
--- `commands::execute::acted` meets its contract: each answer follows from the tests on its way and what the calls ensure. Assumes nothing.
+-- `commands::single::acted` meets its contract: each answer follows from the tests on its way and what the calls ensure. Assumes nothing.
 use Rattle.rules.specs.Commands.{acted}
 use borrow.Author.Needs.{needs}
-use Rattle.commands.proofs.execute.acted.Statement.{statement}
-use Rattle.commands.proofs.execute.acted.Tie as tie
+use Rattle.commands.proofs.single.acted.Statement.{statement}
+use Rattle.commands.proofs.single.acted.Tie as tie
 
 pub acted-spec : {M : Type 1} → statement M
 unfolding acted

@@ -1,14 +1,13 @@
-// Document 01, "Commands": what is decided in a selected command, refusals 3 and 4 with it.
+// Document 01, "Commands": each command by itself, and the answers that drive no address.
 ghost use mathlib.Core.Path.{_≡_};
 ghost use mathlib.Core.Bool.{cond};
 ghost use Rattle.rules.specs.Refusals.{plain, refused};
-ghost use Rattle.rules.specs.Commands.{given, registerOf, restarted, programmed, entry, acted, executed, commanded};
-use crate::decode;
+ghost use Prim.Native.Nat.{_%_};
+ghost use Rattle.rules.specs.Commands.{given, registerOf, restarted, programmed, entry, acted};
 use descriptors::entry;
 use rules::Action;
 use rules::Answer;
 use rules::Change;
-use rules::Command;
 use rules::Control;
 use rules::Cycle;
 use rules::Decision;
@@ -117,8 +116,44 @@ fn programmed(r: Registers, c: Cycle, old: u8, k: Control) -> Decision
     )
 }
 
+// MR, the whole byte.
+pub fn mode(r: Registers, c: Cycle) -> Decision
+    ensures { λ p. ⌜ p ≡ programmed r c (r .control .mr) (record { mr = c .byte; sar = r .control .sar; dscr = r .control .dscr }) ⌝ }
+{
+    let k = Control {
+        mr: c.byte,
+        sar: r.control.sar,
+        dscr: r.control.dscr,
+    };
+    programmed(r, c, r.control.mr, k)
+}
+
+// SAR, its low six bits.
+pub fn segment(r: Registers, c: Cycle) -> Decision
+    ensures { λ p. ⌜ p ≡ programmed r c (r .control .sar) (record { mr = r .control .mr; sar = c .byte % 64; dscr = r .control .dscr }) ⌝ }
+{
+    let k = Control {
+        mr: r.control.mr,
+        sar: c.byte % Unit::SEGMENTS,
+        dscr: r.control.dscr,
+    };
+    programmed(r, c, r.control.sar, k)
+}
+
+// DSCR, its low two bits.
+pub fn counter(r: Registers, c: Cycle) -> Decision
+    ensures { λ p. ⌜ p ≡ programmed r c (r .control .dscr) (record { mr = r .control .mr; sar = r .control .sar; dscr = c .byte % 4 }) ⌝ }
+{
+    let k = Control {
+        mr: r.control.mr,
+        sar: r.control.sar,
+        dscr: c.byte % Unit::BYTES,
+    };
+    programmed(r, c, r.control.dscr, k)
+}
+
 // One byte of the descriptor at SAR.
-fn entry(r: Registers, d: Descriptor, p: Part, c: Cycle) -> Decision
+pub fn entry(r: Registers, d: Descriptor, p: Part, c: Cycle) -> Decision
     ensures { λ q. ⌜ q ≡ entry r d p c ⌝ }
 {
     let control = r.control;
@@ -133,7 +168,7 @@ fn entry(r: Registers, d: Descriptor, p: Part, c: Cycle) -> Decision
 }
 
 // A set or clear command.
-fn acted(r: Registers, a: Action) -> Decision
+pub fn acted(r: Registers, a: Action) -> Decision
     ensures { λ p. ⌜ p ≡ acted r a ⌝ }
 {
     let vtr = r.faults.vtr;
@@ -145,54 +180,4 @@ fn acted(r: Registers, a: Action) -> Decision
         Action::SetCpui => plain(Kind::Command, r, Change::Raise(Unit::CPUI)),
         Action::SetDmai => plain(Kind::Command, r, Change::Raise(Unit::DMAI)),
     }
-}
-
-// What a code stands for, done.
-fn executed(m: Command, read: bool, r: Registers, d: Descriptor, c: Cycle) -> Decision
-    ensures { λ p. ⌜ p ≡ executed m read r d c ⌝ }
-{
-    let k = r.control;
-    match m {
-        Command::Mr => {
-            let mode = Control {
-                mr: c.byte,
-                sar: k.sar,
-                dscr: k.dscr,
-            };
-            programmed(r, c, k.mr, mode)
-        }
-        Command::Sar => {
-            let segment = Control {
-                mr: k.mr,
-                sar: c.byte % Unit::SEGMENTS,
-                dscr: k.dscr,
-            };
-            programmed(r, c, k.sar, segment)
-        }
-        Command::Dscr => {
-            let counter = Control {
-                mr: k.mr,
-                sar: k.sar,
-                dscr: c.byte % Unit::BYTES,
-            };
-            programmed(r, c, k.dscr, counter)
-        }
-        Command::Show(g) => {
-            if read {
-                given(true, register_of(r, g), r, Change::Keep)
-            } else {
-                refused(4, r)
-            }
-        }
-        Command::Entry(p) => entry(r, d, p, c),
-        Command::Act(a) => { if read { refused(4, r) } else { acted(r, a) } }
-        Command::Unlisted => refused(3, r),
-    }
-}
-
-// A selected command.
-pub fn commanded(r: Registers, d: Descriptor, c: Cycle) -> Decision
-    ensures { λ p. ⌜ p ≡ commanded r d c ⌝ }
-{
-    executed(decode::command(c.offset), c.read, r, d, c)
 }

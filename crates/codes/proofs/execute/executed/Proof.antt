@@ -1,8 +1,8 @@
--- `commands::execute::executed` meets its contract: each answer follows from the tests on its way and what the calls ensure. Assumes nothing.
+-- `codes::execute::executed` meets its contract: each answer follows from the tests on its way and what the calls ensure. Assumes nothing.
 use Rattle.rules.specs.Commands.{executed}
 use borrow.Author.Needs.{needs}
-use Rattle.commands.proofs.execute.executed.Statement.{statement}
-use Rattle.commands.proofs.execute.executed.Tie as tie
+use Rattle.codes.proofs.execute.executed.Statement.{statement}
+use Rattle.codes.proofs.execute.executed.Tie as tie
 
 pub executed-spec : {M : Type 1} → statement M
 unfolding executed
@@ -26,9 +26,9 @@ executed-spec =
     (λ c κs. search needs)
     (λ c. search needs)
     (λ c κs. search needs)
-    (λ c. simp (c .before .enum-told .given .1, ← c .programmed .ensures))
-    (λ c. simp (c .before .before .enum-told2 .given .1, ← c .programmed2 .ensures))
-    (λ c. simp (c .before .before .enum-told3 .given .1, ← c .programmed3 .ensures))
+    (λ c. simp (c .before .enum-told .given .1, ← c .mode .ensures))
+    (λ c. simp (c .before .enum-told2 .given .1, ← c .segment .ensures))
+    (λ c. simp (c .before .enum-told3 .given .1, ← c .counter .ensures))
     (λ c. simp (
       c .before .before .before .before .m .given .1,
       c .before .before .if1 .taken,

@@ -1,8 +1,8 @@
--- `commands::execute::entry` meets its contract: what the calls ensure, put together. Assumes nothing.
+-- `commands::single::entry` meets its contract: what the calls ensure, put together. Assumes nothing.
 use Rattle.rules.specs.Commands.{entry}
 use borrow.Author.Needs.{needs}
-use Rattle.commands.proofs.execute.entry.Statement.{statement}
-use Rattle.commands.proofs.execute.entry.Tie as tie
+use Rattle.commands.proofs.single.entry.Statement.{statement}
+use Rattle.commands.proofs.single.entry.Tie as tie
 
 pub entry-spec : {M : Type 1} → statement M
 unfolding entry
