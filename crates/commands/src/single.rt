@@ -5,6 +5,10 @@ ghost use Rattle.rules.specs.Refusals.{plain, refused};
 ghost use Prim.Native.Nat.{_%_};
 ghost use Rattle.rules.specs.Commands.{given, registerOf, restarted, programmed, entry, acted};
 use descriptors::entry;
+use registers::flags;
+use registers::with_control;
+use registers::with_notes;
+use registers::with_vtr;
 use rules::Action;
 use rules::Answer;
 use rules::Change;
@@ -18,7 +22,6 @@ use rules::Part;
 use rules::Register;
 use rules::Registers;
 use rules::Unit;
-use rules::flags;
 
 // Nothing driven, SUP off, and the trap line as the request stands.
 pub fn plain(kind: Kind, r: Registers, h: Change) -> Decision
@@ -87,9 +90,9 @@ pub fn register_of(r: Registers, g: Register) -> u8
 pub fn restarted(r: Registers, mr: u8) -> Registers
     ensures { λ q. ⌜ q ≡ restarted r mr ⌝ }
 {
-    let controlled = r.with_control(mr, r.control.sar, 0);
-    let cleared = controlled.with_vtr(0);
-    cleared.with_notes(false, false, false, false)
+    let controlled = with_control(r, mr, r.control.sar, 0);
+    let cleared = with_vtr(controlled, 0);
+    with_notes(cleared, false, false, false, false)
 }
 
 // A read leaves MR, SAR and DSCR.
@@ -111,7 +114,7 @@ fn programmed(r: Registers, c: Cycle, old: u8, k: Control) -> Decision
     given(
         c.read,
         old,
-        r.with_control(next.mr, next.sar, next.dscr),
+        with_control(r, next.mr, next.sar, next.dscr),
         Change::Keep,
     )
 }
@@ -162,7 +165,7 @@ pub fn entry(r: Registers, d: Descriptor, p: Part, c: Cycle) -> Decision
     given(
         c.read,
         entry::byte_of(d, i),
-        r.with_control(next.mr, next.sar, next.dscr),
+        with_control(r, next.mr, next.sar, next.dscr),
         entry::written_by(c.read, d, i, c.byte),
     )
 }
@@ -174,9 +177,9 @@ pub fn acted(r: Registers, a: Action) -> Decision
     let vtr = r.faults.vtr;
     match a {
         Action::SoftwareReset => plain(Kind::Command, restarted(r, 0), Change::Keep),
-        Action::ClearVtr => plain(Kind::Command, r.with_vtr(0), Change::Keep),
-        Action::ClearSww => plain(Kind::Command, r.with_vtr(vtr & !Unit::SWW), Change::Keep),
-        Action::ClearFatl => plain(Kind::Command, r.with_vtr(vtr & !Unit::FATL), Change::Keep),
+        Action::ClearVtr => plain(Kind::Command, with_vtr(r, 0), Change::Keep),
+        Action::ClearSww => plain(Kind::Command, with_vtr(r, vtr & !Unit::SWW), Change::Keep),
+        Action::ClearFatl => plain(Kind::Command, with_vtr(r, vtr & !Unit::FATL), Change::Keep),
         Action::SetCpui => plain(Kind::Command, r, Change::Raise(Unit::CPUI)),
         Action::SetDmai => plain(Kind::Command, r, Change::Raise(Unit::DMAI)),
     }

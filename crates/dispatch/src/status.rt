@@ -4,6 +4,8 @@ ghost use Rattle.rules.specs.Status.{resetBy, acknowledgeByte, quieted, acknowl
 use access::memory;
 use codes::execute;
 use commands::single;
+use registers::flags;
+use registers::with_notes;
 use rules::Answer;
 use rules::Change;
 use rules::Cycle;
@@ -14,7 +16,6 @@ use rules::Lines;
 use rules::Purpose;
 use rules::Registers;
 use rules::Unit;
-use rules::flags;
 
 // The reset line.
 pub fn reset_by(select: bool, r: Registers) -> Decision
@@ -39,7 +40,7 @@ fn acknowledge_byte(r: Registers) -> u8
 fn quieted(r: Registers) -> Registers
     ensures { λ q. ⌜ q ≡ quieted r ⌝ }
 {
-    r.with_notes(false, false, false, false)
+    with_notes(r, false, false, false, false)
 }
 
 // Status 4: the line of the unit's number, and the notes cleared.
