@@ -14,6 +14,8 @@ use rules::Registers;
 fn executed(m: Command, read: bool, r: Registers, d: Descriptor, c: Cycle) -> Decision
     ensures { λ p. ⌜ p ≡ executed m read r d c ⌝ }
 {
+    // a write to a read-only register, or a read of a set or clear command
+    let wrong_way = 4;
     match m {
         Command::Mr => single::mode(r, c),
         Command::Sar => single::segment(r, c),
@@ -22,13 +24,13 @@ fn executed(m: Command, read: bool, r: Registers, d: Descriptor, c: Cycle) -> De
             if read {
                 single::given(true, single::register_of(r, g), r, Change::Keep)
             } else {
-                single::refused(4, r)
+                single::refused(wrong_way, r)
             }
         }
         Command::Entry(p) => single::entry(r, d, p, c),
         Command::Act(a) => {
             if read {
-                single::refused(4, r)
+                single::refused(wrong_way, r)
             } else {
                 single::acted(r, a)
             }

@@ -13,4 +13,9 @@ accessed-spec =
     (λ c κs. search needs)
     (λ c κs. search needs)
     (λ c κs. search needs)
-    (λ c. cc))
+    (λ c. simp (
+      ← c .before .before .before .rights-of .ensures,
+      ← c .before .before .out-of-length .ensures,
+      ← c .before .warns .ensures,
+      ← c .checked .ensures,
+    )))
