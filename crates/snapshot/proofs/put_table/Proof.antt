@@ -36,9 +36,9 @@ loop-again c =
     let same : length (put .last .0) ≡ length (at .loop .out) =
     ap length (put .ensures) ∙ length-sets (at .loop .out) (10 + 4 * i) (descriptorBytes d) in (
       put .ensures
-      ∙ ap (λ (l : List ℕ). sets l (10 + 4 * i) (descriptorBytes d)) (at .loop .inv .0)
-      ∙ stored o (start .t2) i (omega arith)
-      ∙ ap (λ (k : ℕ). sets o 10 (tableBytes (take k (start .t2)))) (sym (add-one i)),
+          ∙ ap (λ (l : List ℕ). sets l (10 + 4 * i) (descriptorBytes d)) (at .loop .inv .0)
+          ∙ stored o (start .t2) i (omega arith)
+          ∙ ap (λ (k : ℕ). sets o 10 (tableBytes (take k (start .t2)))) (sym (add-one i)),
       omega arith,
       at .loop .inv .2,
       same ∙ at .loop .inv .3,
