@@ -1,5 +1,6 @@
-/* refusals: what the C interface refuses, tried through C: buffers that are too short, damaged units, strange notes, cycles out of range,
- * commands that are not there. Each refusal must give its number and leave what it says it leaves. Status 0 if all do, else 1. */
+/* interface: what distantarm.h says, tried through C. Where the registers, notes and descriptors stand and each kind of answer; then all
+ * that is refused: buffers that are too short, damaged units, strange notes, cycles out of range, commands that are not there. A refusal
+ * must give its number and leave what it says it leaves. Status 0 if all is so, else 1. */
 #include <stdio.h>
 #include <string.h>
 
@@ -15,20 +16,67 @@ static void expect(bool holds, const char *what)
     if (holds)
         return;
     failed++;
-    fprintf(stderr, "refusals: %s: not as it should be\n", what);
+    fprintf(stderr, "interface: %s: not as distantarm.h says\n", what);
 }
 
-/* A cycle of the parameters that are tried here; the others are those of a selected CPU command in system mode. */
+/* A selected cycle of the CPU. */
 struct cycle {
-    uint8_t status, segment, code;
-    bool read;
+    uint8_t status, segment, offset, byte;
+    bool read, normal, reset;
 };
 
-static const struct cycle plain = {3, 0, 0x02, true};
+/* a read of the VTR */
+static const struct cycle plain = {3, 0, 0x02, 0, true, false, false};
 
 static uint8_t call(uint8_t *unit, size_t unit_length, uint8_t *answer, size_t answer_length, struct cycle c)
 {
-    return distantarm_cycle(unit, unit_length, answer, answer_length, c.status, c.read, false, false, true, c.segment, c.code, 0, false);
+    return distantarm_cycle(unit, unit_length, answer, answer_length, c.status, c.read, c.normal, false, true, c.segment, c.offset, c.byte,
+                            c.reset);
+}
+
+/* Cycles one after another from power-on: the kind of each, and a byte of the unit after it. Descriptor 7 begins at byte 38. */
+static const struct row {
+    struct cycle c;
+    int kind, at, value;
+} rows[] = {
+    {{3, 0, 0x00, 0xC5, false, false, false}, DISTANTARM_COMMAND, DISTANTARM_MR, 0xC5},
+    {{3, 0, 0x01, 7, false, false, false}, DISTANTARM_COMMAND, DISTANTARM_SAR, 7},
+    {{3, 0, 0x0B, 0x12, false, false, false}, DISTANTARM_COMMAND, DISTANTARM_DSCR, 1},
+    {{3, 0, 0x0B, 0x34, false, false, false}, DISTANTARM_COMMAND, DISTANTARM_TABLE + DISTANTARM_DESCRIPTOR_BYTES * 7 + 1, 0x34},
+    {{3, 0, 0x0B, 2, false, false, false}, DISTANTARM_COMMAND, DISTANTARM_TABLE + DISTANTARM_DESCRIPTOR_BYTES * 7 + 2, 2},
+    {{3, 0, 0x0B, 1, false, false, false}, DISTANTARM_COMMAND, 38, 0x12},
+    {{13, 7, 0x01, 0, true, false, false}, DISTANTARM_TRANSLATED, DISTANTARM_ISN, 7},
+    {{13, 7, 0x02, 0, true, false, false}, DISTANTARM_TRANSLATED, DISTANTARM_IOFF, 2},
+    {{8, 7, 0x93, 0, false, true, false}, DISTANTARM_TRANSLATED, DISTANTARM_VTR, 5},
+    {{0, 0, 0, 0, true, false, false}, DISTANTARM_IGNORED, DISTANTARM_VSN, 7},
+    {{0, 0, 0, 0, true, false, false}, DISTANTARM_IGNORED, DISTANTARM_VOFF, 0x93},
+    {{0, 0, 0, 0, true, false, false}, DISTANTARM_IGNORED, DISTANTARM_BCSR, 0x28},
+    {{0, 0, 0, 0, true, false, false}, DISTANTARM_IGNORED, DISTANTARM_NOTES,
+     DISTANTARM_REQUEST + DISTANTARM_AWAIT + DISTANTARM_OWN + DISTANTARM_HOLD},
+    {{13, 7, 0x02, 0, true, false, false}, DISTANTARM_ABORTED, DISTANTARM_NOTES, DISTANTARM_REQUEST},
+    {{8, 7, 0x93, 0, false, true, false}, DISTANTARM_TRANSLATED, DISTANTARM_NOTES, DISTANTARM_REQUEST + DISTANTARM_AWAIT + DISTANTARM_HOLD},
+    {{4, 0, 0, 0, true, false, false}, DISTANTARM_ACKNOWLEDGE, DISTANTARM_NOTES, 0},
+    {{3, 0, 0x11, 0, false, false, false}, DISTANTARM_COMMAND, DISTANTARM_VTR, 0},
+    {{3, 0, 0x0A, 0x20, false, false, false}, DISTANTARM_COMMAND, 41, 0x20},
+    {{8, 7, 0x02, 0, false, false, false}, DISTANTARM_TRANSLATED, DISTANTARM_NOTES, DISTANTARM_REQUEST + DISTANTARM_AWAIT + DISTANTARM_OWN},
+    {{3, 0, 0x00, 0x80, false, false, false}, DISTANTARM_COMMAND, DISTANTARM_MR, 0x80},
+    {{8, 7, 0x02, 0, true, false, false}, DISTANTARM_PASSED, DISTANTARM_VTR, 0x20},
+    {{0, 0, 0, 0, true, false, true}, DISTANTARM_RESET, DISTANTARM_VTR, 0},
+};
+
+static void layout(void)
+{
+    uint8_t unit[UNIT], answer[ANSWER];
+    char what[32];
+    size_t i;
+
+    expect(distantarm_power_on(unit, UNIT) == 0, "power-on");
+    for (i = 0; i < sizeof rows / sizeof rows[0]; i++) {
+        snprintf(what, sizeof what, "row %d of the layout", (int)i);
+        expect(call(unit, UNIT, answer, ANSWER, rows[i].c) == 0, what);
+        expect(answer[DISTANTARM_KIND] == rows[i].kind, what);
+        expect(unit[rows[i].at] == rows[i].value, what);
+    }
 }
 
 /* Bytes of all kinds in the places where a unit takes any byte. */
@@ -101,7 +149,7 @@ static void damaged_units(void)
     static const struct { int at, least; } bounds[] = {
         {DISTANTARM_SAR, 64}, {DISTANTARM_VSN, 64}, {DISTANTARM_ISN, 64}, {DISTANTARM_BCSR, 64}, {DISTANTARM_DSCR, 4}, {DISTANTARM_NOTES, 16},
     };
-    const struct cycle outside = {16, 128, 0x12, true};
+    const struct cycle outside = {16, 128, 0x12, 0, true, false, false};
     uint8_t unit[UNIT + PAST];
     size_t i;
     int value, request;
@@ -120,8 +168,9 @@ static void damaged_units(void)
 /* Refusals 1, 3 and 4 of an undamaged unit, for each of the sixteen notes bytes. */
 static void refused_cycles(void)
 {
-    static const struct cycle status = {16, 0, 0x02, true}, segment = {3, 128, 0x02, true};
-    static const struct cycle unlisted = {3, 0, 0x12, true}, written = {3, 0, 0x02, false}, read = {3, 0, 0x10, true};
+    static const struct cycle status = {16, 0, 0x02, 0, true, false, false}, segment = {3, 128, 0x02, 0, true, false, false};
+    static const struct cycle unlisted = {3, 0, 0x12, 0, true, false, false}, read = {3, 0, 0x10, 0, true, false, false};
+    static const struct cycle written = {3, 0, 0x02, 0, false, false, false};
     uint8_t unit[UNIT + PAST];
     int notes;
 
@@ -151,11 +200,12 @@ static void listing(void)
 
 int main(void)
 {
+    layout();
     power_on();
     short_buffers();
     damaged_units();
     refused_cycles();
     listing();
-    printf("refusals: %d of %d as they should be\n", tried - failed, tried);
+    printf("interface: %d of %d tries as distantarm.h says\n", tried - failed, tried);
     return failed != 0;
 }
