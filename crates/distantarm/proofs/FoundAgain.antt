@@ -7,7 +7,7 @@ use Prim.Native.Nat.{ℕ, zero, suc, _+_, _*_, _<_, _≤_}
 use native.Mathlib.Nat.{add-assoc, div-add-mod', le-of-suc-le-suc, not-suc-le-zero}
 use native.Mathlib.Omega.{arith}
 use lib.Dec.{ltb}
-use lib.ListN.{length, getD, take, drop, length-append}
+use lib.ListN.{length, getD, take, drop}
 use lib.Seq.{sets, sets-eq, take-suc, take-all, getD-append-add}
 use Rattle.rules.specs.PowerOn.{none}
 use Rattle.rules.specs.declared.Descriptor.{Descriptor}

@@ -1,6 +1,6 @@
 -- What a caller may rely on that keeps a unit in bytes.
 -- Assumes nothing.
-use mathlib.Core.Path.{_≡_, refl, sym, ap, _∙_}
+use mathlib.Core.Path.{_≡_, refl, ap, _∙_}
 use mathlib.Core.Bool.{Bool, true, false}
 use mathlib.Core.List.{List, [], _∷_}
 use Prim.Native.Nat.{ℕ, _≤_}
@@ -14,7 +14,6 @@ use Rattle.rules.specs.declared.Answer.{Answer}
 use Rattle.rules.specs.declared.Cycle.{Cycle}
 use Rattle.rules.specs.declared.Kind.the-variants.{Refused}
 use Rattle.rules.specs.declared.Unit.{Unit}
-use Rattle.runs.specs.Undamaged.{Undamaged}
 use Rattle.runs.proofs.Refusal.{refusal-leaves}
 use Rattle.runs.proofs.Undamaged.{undamaged-after}
 use Rattle.snapshot.specs.Snapshot.{unitIn, bytesOf}

@@ -92,3 +92,7 @@ pub record Cycled (short : Bool) (c : Cycle) (unit answer unit′ answer′ : Li
 
 abbrev pub noRoom : (unit answer : List ℕ) → Bool
 noRoom unit answer = noUnit unit || noAnswer answer
+
+-- the same of buffers of any length
+abbrev pub Called : Cycle → (unit answer unit′ answer′ : List ℕ) → (number : ℕ) → Type 0
+Called c unit answer unit′ answer′ number = Cycled (noRoom unit answer) c unit answer unit′ answer′ number

@@ -8,7 +8,7 @@ ghost use lib.Seq.{sets};
 ghost use Rattle.rules.specs.Kinds.{numberOf};
 ghost use Rattle.pack.specs.Packed.{packed};
 ghost use Rattle.listing.specs.Listed.{Listed};
-ghost use Rattle.distantarm.specs.Interface.{PoweredOn, Cycled, noRoom, given};
+ghost use Rattle.distantarm.specs.Interface.{PoweredOn, Cycled, Called, given};
 use commands::execute;
 use rules::Answer;
 use rules::Cycle;
@@ -77,7 +77,8 @@ pub extern "C" fn distantarm_cycle(
     byte: u8,
     reset: bool,
 ) -> u8
-    ensures { λ r. ⌜ Cycled (noRoom (now (unit .entry)) (now (answer .entry))) (given status read normal dma select segment offset byte reset) (now (unit .entry)) (now (answer .entry)) (now (unit .exit)) (now (answer .exit)) r ⌝ }
+    ensures { λ r. ⌜ Called (given status read normal dma select segment offset byte reset)
+        (now (unit .entry)) (now (answer .entry)) (now (unit .exit)) (now (answer .exit)) r ⌝ }
 {
     let narrow = (unit.len() < snapshot::BYTES) | (answer.len() < pack::BYTES);
     if narrow {

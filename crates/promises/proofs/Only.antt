@@ -2,11 +2,10 @@
 -- so one law serves them all. What a call hands back of a lent trace is named by its bytes: where they stand is the caller's own trace.
 -- Assumes nothing.
 use mathlib.Core.Path.{_≡_, sym, _∙_}
-use mathlib.Core.Bool.{Bool}
 use mathlib.Core.List.{List}
 use Prim.Native.Nat.{ℕ}
 use denote.Ref.{RefT, now}
-use Rattle.distantarm.specs.Interface.{PoweredOn, Cycled}
+use Rattle.distantarm.specs.Interface.{PoweredOn, Called}
 use Rattle.header.specs.Header.{refusalOf}
 use Rattle.listing.specs.Listed.{Listed}
 use Rattle.reader.specs.Reading.{startOf, stepOf, foundOf, movedOf}
@@ -100,8 +99,8 @@ list-only t before p q = (only (p .text) (q .text), only (p .count) (q .count))
 pub powered-on-only : (before : List ℕ) {a b : List ℕ} {x y : ℕ} → PoweredOn before a x → PoweredOn before b y → (a ≡ b) × (x ≡ y)
 powered-on-only before p q = (only (p .leaves) (q .leaves), only (p .says) (q .says))
 
-pub cycled-only : (short : Bool) (c : Cycle) (unit answer : List ℕ) {a b v w : List ℕ} {x y : ℕ}
-    → Cycled short c unit answer a v x
-    → Cycled short c unit answer b w y
+pub called-only : (c : Cycle) (unit answer : List ℕ) {a b v w : List ℕ} {x y : ℕ}
+    → Called c unit answer a v x
+    → Called c unit answer b w y
     → (a ≡ b) × (v ≡ w) × (x ≡ y)
-cycled-only short c unit answer p q = (only (p .leaves) (q .leaves), only (p .shows) (q .shows), only (p .says) (q .says))
+called-only c unit answer p q = (only (p .leaves) (q .leaves), only (p .shows) (q .shows), only (p .says) (q .says))

@@ -1,8 +1,6 @@
 -- `distantarm::turn` meets its contract: the answer of a damaged unit where the notes are strange, else one step. Assumes nothing.
 use mathlib.Core.Path.{refl, ap, _∙_}
 use mathlib.Core.Bool.{true, false}
-use mathlib.Core.List.{List}
-use Prim.Native.Nat.{ℕ}
 use lib.Seq.{sets}
 use Rattle.rules.specs.Refusals.{refused}
 use Rattle.rules.specs.Step.{stepped}

@@ -1,10 +1,6 @@
 -- `snapshot::put_registers` meets its contract: its ten stores are the registers' bytes stored. Assumes nothing.
-use mathlib.Core.Path.{_≡_, ap}
-use mathlib.Core.List.{List, [], _∷_}
-use Prim.Native.Nat.{ℕ}
 use native.Mathlib.Omega.{arith}
 use lib.ListN.{length-set}
-use lib.Seq.{sets}
 use Rattle.snapshot.specs.Snapshot.{registerBytes}
 use borrow.Author.Needs.{needs}
 use Rattle.snapshot.proofs.put_registers.Statement.{statement}
