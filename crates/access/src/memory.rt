@@ -1,14 +1,10 @@
-// Document 01, "Fetch" and "SUP": what is decided in a memory cycle.
+// Document 01, "Fetch" and "Checks": what is decided in a memory cycle.
 ghost use mathlib.Core.Path.{_≡_};
-ghost use Rattle.rules.specs.Memory.{seen, aborted, untranslated, checked, accessed, memory};
+ghost use Rattle.rules.specs.Memory.{accessed, through, memory};
 use checks::length;
 use checks::rights;
 use checks::translation;
 use marks::fetch;
-use marks::touch;
-use recording::record;
-use rules::Answer;
-use rules::Change;
 use rules::Cycle;
 use rules::Decision;
 use rules::Descriptor;
@@ -16,66 +12,6 @@ use rules::Kind;
 use rules::Lines;
 use rules::Registers;
 use rules::Way;
-
-// What a memory cycle answers.
-fn seen(kind: Kind, l: Lines, sup: bool, trap: bool) -> Answer
-    ensures { λ a. ⌜ a ≡ seen kind l sup trap ⌝ }
-{
-    Answer {
-        kind,
-        lines: l,
-        sup,
-        trap,
-        drives: false,
-        byte: 0,
-    }
-}
-
-// The aborted fetch: nothing is checked or recorded.
-fn aborted(r: Registers, l: Lines) -> Decision
-    ensures { λ p. ⌜ p ≡ aborted r l ⌝ }
-{
-    Decision {
-        answer: seen(Kind::Aborted, l, false, r.notes.request),
-        registers: fetch::resumed(r),
-        change: Change::Keep,
-    }
-}
-
-// A memory cycle that is not translated; `r` are the registers as it begins.
-fn untranslated(r: Registers, c: Cycle, l: Lines, kind: Kind) -> Decision
-    ensures { λ p. ⌜ p ≡ untranslated r c l kind ⌝ }
-{
-    Decision {
-        answer: seen(kind, l, !c.dma & r.notes.hold, r.notes.request),
-        registers: r,
-        change: Change::Keep,
-    }
-}
-
-// A translated cycle, by its rights, its length, whether it violates and whether it warns.
-fn checked(
-    rights: u8,
-    long: bool,
-    violation: bool,
-    warning: bool,
-    r: Registers,
-    d: Descriptor,
-    c: Cycle,
-    l: Lines,
-) -> Decision
-    ensures { λ p. ⌜ p ≡ checked rights long violation warning r d c l ⌝ }
-{
-    let event = record::event_of(c.dma, violation, warning, rights, long);
-    let after = record::recorded(r, c, event);
-    let sup = violation | (!c.dma & r.notes.hold);
-    let stores = fetch::is_fetch(c) & !violation & (r.faults.vtr == 0);
-    Decision {
-        answer: seen(Kind::Translated, l, sup, after.notes.request),
-        registers: touch::noted(after, stores, violation & !c.dma, c),
-        change: touch::touched_by(sup, d, c),
-    }
-}
 
 // A translated cycle that is no aborted fetch; `r` are the registers as it begins.
 fn accessed(r: Registers, d: Descriptor, c: Cycle, l: Lines) -> Decision
@@ -85,7 +21,18 @@ fn accessed(r: Registers, d: Descriptor, c: Cycle, l: Lines) -> Decision
     let long = length::out_of_length(d, c);
     let violation = (rights != 0) | long;
     let warning = length::warns(d, c, violation);
-    checked(rights, long, violation, warning, r, d, c, l)
+    outcomes::checked(rights, long, violation, warning, r, d, c, l)
+}
+
+// One that is no aborted fetch, by its way.
+fn through(way: Way, r: Registers, d: Descriptor, c: Cycle, l: Lines) -> Decision
+    ensures { λ p. ⌜ p ≡ through way r d c l ⌝ }
+{
+    match way {
+        Way::Translated => accessed(r, d, c, l),
+        Way::Passed => outcomes::untranslated(r, c, l, Kind::Passed),
+        Way::Silent => outcomes::untranslated(r, c, l, Kind::Ignored),
+    }
 }
 
 // A memory cycle, with its segment's descriptor.
@@ -97,12 +44,7 @@ pub fn memory(r: Registers, d: Descriptor, c: Cycle) -> Decision
     let l = translation::lines_of(way, d.base, c);
     let aborts = starts & r.notes.awaits;
     if aborts {
-        return aborted(r, l);
+        return outcomes::aborted(r, l);
     }
-    let b = fetch::begun(r, starts);
-    match way {
-        Way::Translated => accessed(b, d, c, l),
-        Way::Passed => untranslated(b, c, l, Kind::Passed),
-        Way::Silent => untranslated(b, c, l, Kind::Ignored),
-    }
+    through(way, fetch::begun(r, starts), d, c, l)
 }

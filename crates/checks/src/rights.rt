@@ -1,9 +1,9 @@
 // Document 01, "Checks": the rights of a translated cycle.
 ghost use mathlib.Core.Path.{_≡_};
 ghost use Rattle.rules.specs.Checks.{rightsOf};
+use registers::flags;
 use rules::Cycle;
 use rules::Unit;
-use rules::flags;
 
 // The rights that this cycle violates: the VTR's flags in their places, and bit 7 for DMAI. A segment with no protection flag is done
 // at once: that is the faster way through the run.

@@ -2,7 +2,10 @@
 ghost use mathlib.Core.Path.{_≡_};
 ghost use Rattle.rules.specs.Status.{resetBy, acknowledgeByte, quieted, acknowledged, ignored, purposeOf, byStatus};
 use access::memory;
-use commands::execute;
+use codes::execute;
+use commands::single;
+use registers::flags;
+use registers::with_notes;
 use rules::Answer;
 use rules::Change;
 use rules::Cycle;
@@ -13,14 +16,13 @@ use rules::Lines;
 use rules::Purpose;
 use rules::Registers;
 use rules::Unit;
-use rules::flags;
 
 // The reset line.
 pub fn reset_by(select: bool, r: Registers) -> Decision
     ensures { λ p. ⌜ p ≡ resetBy select r ⌝ }
 {
     let mr = flags::flag_if(select, Unit::MSEN);
-    execute::plain(Kind::Reset, execute::restarted(r, mr), Change::Keep)
+    single::plain(Kind::Reset, single::restarted(r, mr), Change::Keep)
 }
 
 // The byte that an acknowledge drives: 2^ID while the request stands, else 0.
@@ -38,7 +40,7 @@ fn acknowledge_byte(r: Registers) -> u8
 fn quieted(r: Registers) -> Registers
     ensures { λ q. ⌜ q ≡ quieted r ⌝ }
 {
-    r.with_notes(false, false, false, false)
+    with_notes(r, false, false, false, false)
 }
 
 // Status 4: the line of the unit's number, and the notes cleared.
@@ -66,7 +68,7 @@ fn acknowledged(r: Registers) -> Decision
 fn ignored(r: Registers) -> Decision
     ensures { λ p. ⌜ p ≡ ignored r ⌝ }
 {
-    execute::plain(Kind::Ignored, r, Change::Keep)
+    single::plain(Kind::Ignored, r, Change::Keep)
 }
 
 // What the status asks for.

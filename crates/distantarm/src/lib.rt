@@ -9,7 +9,7 @@ ghost use Rattle.rules.specs.Kinds.{numberOf};
 ghost use Rattle.pack.specs.Packed.{packed};
 ghost use Rattle.listing.specs.Listed.{Listed};
 ghost use Rattle.distantarm.specs.Interface.{PoweredOn, Cycled, Called, given};
-use commands::execute;
+use commands::single;
 use rules::Answer;
 use rules::Cycle;
 use rules::Unit;
@@ -37,7 +37,7 @@ fn show(answer: &mut [u8], a: Answer) -> u8
 {
     pack::put(answer, 0, a);
     let kind = a.kind;
-    kind.number()
+    kinds::number(kind)
 }
 
 // One cycle of the unit in the bytes, both buffers having room.
@@ -49,7 +49,7 @@ fn turn(unit: &mut [u8], answer: &mut [u8], c: Cycle) -> u8
     let strange = snapshot::LAST_NOTES < notes;
     if strange {
         let r = snapshot::registers_in(unit);
-        let p = execute::refused(2, r);
+        let p = single::refused(2, r);
         let a = p.answer;
         return show(answer, a);
     }

@@ -2,6 +2,7 @@
 ghost use mathlib.Core.Path.{_≡_};
 ghost use Rattle.rules.specs.Bus.{fetch};
 ghost use Rattle.rules.specs.Memory.{begun, resumed};
+use registers::with_notes;
 use rules::Cycle;
 use rules::Registers;
 use rules::Unit;
@@ -17,14 +18,15 @@ pub fn is_fetch(c: Cycle) -> bool
 pub fn resumed(r: Registers) -> Registers
     ensures { λ q. ⌜ q ≡ resumed r ⌝ }
 {
-    r.with_notes(r.notes.request, false, false, false)
+    with_notes(r, r.notes.request, false, false, false)
 }
 
 // The registers as an instruction starts: own and hold are cleared.
 pub fn begun(r: Registers, starts: bool) -> Registers
     ensures { λ q. ⌜ q ≡ begun r starts ⌝ }
 {
-    r.with_notes(
+    with_notes(
+        r,
         r.notes.request,
         r.notes.awaits,
         r.notes.own & !starts,

@@ -1,6 +1,7 @@
 // Document 01, the last paragraph of "Recording": REF and CHG, ISN and IOFF, hold.
 ghost use mathlib.Core.Path.{_≡_};
 ghost use Rattle.rules.specs.Memory.{touched, touchedBy, noted};
+use registers::flags;
 use rules::Change;
 use rules::Control;
 use rules::Cycle;
@@ -10,7 +11,6 @@ use rules::Fetched;
 use rules::Notes;
 use rules::Registers;
 use rules::Unit;
-use rules::flags;
 
 // REF set, and CHG too by a write.
 fn touched(d: Descriptor, c: Cycle) -> Descriptor

@@ -4,8 +4,8 @@ ghost use Prim.Native.Nat.{_+_, _≤_};
 ghost use lib.ListN.{length};
 ghost use lib.Seq.{sets};
 ghost use Rattle.pack.specs.Packed.{flagsOf, packed};
+use registers::flags;
 use rules::Answer;
-use rules::flags;
 
 // The bytes of an answer, and its flags: the address is driven, SUP, the trap line, the data byte is driven.
 pub const BYTES: usize = 6;
@@ -34,8 +34,8 @@ pub fn put(out: &mut [u8], at: usize, a: Answer)
     ensures { λ _. ⌜ now (out .exit) ≡ sets (now (out .entry)) at (packed a) ⌝ }
 {
     let kind = a.kind;
-    let letter = kind.letter();
-    let number = kind.number();
+    let letter = kinds::letter(kind);
+    let number = kinds::number(kind);
     let flags = flags_of(a);
     let block = a.lines.block;
     out[at] = letter;

@@ -1,6 +1,9 @@
 // Document 01, "Recording": what a CPU cycle that violates or warns leaves in the VTR, its companions and the notes.
 ghost use mathlib.Core.Path.{_≡_};
 ghost use Rattle.rules.specs.Recording.{eventOf, busStatus, firstEntry, added, raised, recorded};
+use registers::flags;
+use registers::with_notes;
+use registers::with_vtr;
 use rules::Control;
 use rules::Cycle;
 use rules::Faults;
@@ -8,7 +11,6 @@ use rules::Fetched;
 use rules::Notes;
 use rules::Registers;
 use rules::Unit;
-use rules::flags;
 
 // What there is to record: a violation's flags, or PWW, or 0.
 pub fn event_of(dma: bool, violation: bool, warning: bool, rights: u8, long: bool) -> u8
@@ -64,7 +66,7 @@ pub fn first_entry(r: Registers, c: Cycle, event: u8) -> Registers
 pub fn added(r: Registers, event: u8) -> Registers
     ensures { λ q. ⌜ q ≡ added r event ⌝ }
 {
-    r.with_vtr(r.faults.vtr | event)
+    with_vtr(r, r.faults.vtr | event)
 }
 
 // A later instruction's entry: one flag, SWW or FATL, and a request while FATL is clear.
@@ -72,8 +74,9 @@ pub fn raised(r: Registers, flag: u8) -> Registers
     ensures { λ q. ⌜ q ≡ raised r flag ⌝ }
 {
     let asks = r.faults.vtr & Unit::FATL == 0;
-    let flagged = r.with_vtr(r.faults.vtr | flag);
-    flagged.with_notes(
+    let flagged = with_vtr(r, r.faults.vtr | flag);
+    with_notes(
+        flagged,
         r.notes.request | asks,
         r.notes.awaits | asks,
         r.notes.own,

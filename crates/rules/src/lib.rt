@@ -1,10 +1,6 @@
 // The unit, its cycle and its answer: the types that the rules of specs/ speak of, the constants that belong to the unit, and power-on.
 ghost use mathlib.Core.Path.{_≡_};
 ghost use Rattle.rules.specs.PowerOn.{powerOn};
-ghost use Rattle.rules.specs.Kinds.{letterOf, numberOf};
-
-pub mod flags;
-pub mod rebuild;
 
 // A segment's descriptor.
 pub struct Descriptor {
@@ -169,40 +165,6 @@ pub struct Decision {
 pub struct Stepped {
     pub unit: Unit,
     pub answer: Answer,
-}
-
-impl Kind {
-    // The letter that stands for the kind.
-    pub fn letter(self) -> u8
-        ensures { λ r. ⌜ r ≡ letterOf self ⌝ }
-    {
-        match self {
-            Kind::Reset => b'R',
-            Kind::Acknowledge => b'A',
-            Kind::Command => b'C',
-            Kind::Aborted => b'F',
-            Kind::Translated => b'T',
-            Kind::Passed => b'P',
-            Kind::Ignored => b'I',
-            Kind::Refused(_) => b'X',
-        }
-    }
-
-    // The number of a refusal, and 0 where nothing was refused.
-    pub fn number(self) -> u8
-        ensures { λ r. ⌜ r ≡ numberOf self ⌝ }
-    {
-        match self {
-            Kind::Reset => 0,
-            Kind::Acknowledge => 0,
-            Kind::Command => 0,
-            Kind::Aborted => 0,
-            Kind::Translated => 0,
-            Kind::Passed => 0,
-            Kind::Ignored => 0,
-            Kind::Refused(n) => n,
-        }
-    }
 }
 
 impl Unit {

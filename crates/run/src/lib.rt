@@ -12,7 +12,6 @@ use rules::Cycle;
 use rules::Unit;
 use trace::count;
 use trace::decode;
-use unit::act;
 use unit::table;
 
 // The number that says that the buffer has no room for all answers.
@@ -37,9 +36,9 @@ fn run_to(trace: &[u8], count: usize, out: &mut [u8])
     let mut r = u.registers;
     for n in 0..count {
         let c = cycle_at(trace, n);
-        let i = (act::place_of(r, c) % Unit::SEGMENTS) as usize;
+        let i = (decide::place_of(r, c) % Unit::SEGMENTS) as usize;
         let d = table[i];
-        let p = act::act(r, d, c);
+        let p = decide::act(r, d, c);
         let a = p.answer;
         pack::put(out, pack::BYTES * n, a);
         let after = p.registers;

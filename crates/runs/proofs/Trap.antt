@@ -1,15 +1,18 @@
 -- What the trap answer shows, and that a trap line stands until one of three cycles takes it back.
 -- Assumes nothing.
-use mathlib.Core.Path.{_≡_, sym, _∙_}
+use mathlib.Core.Path.{_≡_, refl, sym, _∙_}
 use mathlib.Core.Bool.{Bool, true, false, true≢false}
 use Rattle.rules.specs.Recording.{firstEntry, added, raised}
 use Rattle.rules.specs.Memory.{begun, noted, resumed}
-use Rattle.rules.specs.Commands.{controlled, cleared}
-use Rattle.rules.specs.Step.{after, stepped}
+use Rattle.rules.specs.Codes.{commandOf}
+use Rattle.rules.specs.Commands.{controlled, cleared, restarted, acted, executed, commanded}
+use Rattle.rules.specs.Refusals.{damaged, outOfRange, plain}
+use Rattle.rules.specs.Status.{resetBy, acknowledged, purposeOf, byStatus}
+use Rattle.rules.specs.Step.{decided, decision, after, stepped}
 use Rattle.rules.specs.declared.Cycle.{Cycle}
 use Rattle.rules.specs.declared.Registers.{Registers}
 use Rattle.rules.specs.declared.Unit.{Unit}
-use Rattle.runs.specs.Trap.{TrapShows, takesBack, TrapStands}
+use Rattle.runs.specs.Trap.{TrapShows, takesBack, TrapStands, EachTakesBack}
 use Rattle.runs.proofs.Runs.{kept}
 use Rattle.runs.proofs.Ways.{Became, stayed, controls, empties, clears, restarts, quiets, resumes, begins}
 use Rattle.runs.proofs.Ways.{records, by-row, made}
@@ -43,3 +46,7 @@ pub trap-stands : TrapStands
 trap-stands u cs h q =
     kept (λ c. takesBack c ≡ false) (λ u. Requests (u .registers)) (λ x. x .trap ≡ true)
     (λ u c e h. (trap-shows u c ∙ request-stands u c e h, request-stands u c e h)) cs u q h .0
+
+pub each-takes-back : EachTakesBack
+unfolding decision decided damaged outOfRange resetBy byStatus purposeOf acknowledged commandOf commanded executed acted plain restarted
+each-takes-back = ((refl, refl), ((refl, refl), ((refl, refl), refl)))

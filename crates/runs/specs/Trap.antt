@@ -2,7 +2,9 @@
 -- Assumes nothing.
 use mathlib.Core.Path.{_≡_}
 use mathlib.Core.Bool.{Bool, true, false, _||_}
-use mathlib.Core.List.{List}
+use mathlib.Core.List.{List, [], _∷_}
+use Prim.Native.Nat.{ℕ}
+use Rattle.rules.specs.PowerOn.{powerOn}
 use Rattle.rules.specs.Runs.{answers}
 use Rattle.rules.specs.Step.{stepped}
 use Rattle.rules.specs.declared.Cycle.{Cycle}
@@ -27,3 +29,35 @@ TrapStands =
     -- none of the three comes; all else may, refused cycles too
     → Every (λ c. takesBack c ≡ false) cs
     → Every (λ x. x .trap ≡ true) (answers u cs)
+
+-- a unit whose trap line stands, all else as at power-on
+abbrev pub requesting : Unit
+requesting = record {
+  table = powerOn .table;
+  registers = record {
+    control = powerOn .registers .control;
+    faults = powerOn .registers .faults;
+    fetched = powerOn .registers .fetched;
+    notes = record { request = true; awaits = false; own = false; hold = false };
+  };
+}
+
+-- a CPU write with select on, by its status, its code and the reset line
+abbrev pub written : (status code : ℕ) → (reset : Bool) → Cycle
+written status code reset = record {
+  status = status;
+  read = false;
+  normal = false;
+  dma = false;
+  select = true;
+  segment = 0;
+  offset = code;
+  byte = 0;
+  reset = reset;
+}
+
+-- CLAIM: each of the three does take it back: an acknowledge, a reset, a software reset. So none of them can be left out above.
+abbrev pub EachTakesBack : Type 0
+EachTakesBack =
+    Every (λ c. (takesBack c ≡ true) × (stepped requesting c .answer .trap ≡ false))
+    (written 4 0x00 false ∷ written 0 0x00 true ∷ written 3 0x10 false ∷ [])

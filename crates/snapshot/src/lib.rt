@@ -5,6 +5,7 @@ ghost use lib.ListN.{length};
 ghost use lib.Seq.{sets};
 ghost use Rattle.snapshot.specs.Snapshot.{descriptorIn, tableIn, notesIn, registersIn, unitIn};
 ghost use Rattle.snapshot.specs.Snapshot.{descriptorBytes, tableBytes, notesByte, registerBytes, bytesOf};
+use registers::flags;
 use rules::Control;
 use rules::Descriptor;
 use rules::Faults;
@@ -12,7 +13,6 @@ use rules::Fetched;
 use rules::Notes;
 use rules::Registers;
 use rules::Unit;
-use rules::flags;
 
 // The bytes of a unit, where its notes stand, and where its descriptors begin.
 pub const BYTES: usize = 266;

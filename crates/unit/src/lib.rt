@@ -1,4 +1,3 @@
-// One cycle of the unit: what is decided, and the unit after it.
-pub mod act;
+// One cycle of the unit: the table and the unit after it.
 pub mod step;
 pub mod table;

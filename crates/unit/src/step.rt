@@ -1,7 +1,6 @@
 // One cycle of a unit, by value.
 ghost use mathlib.Core.Path.{_≡_};
 ghost use Rattle.rules.specs.Step.{stepped};
-use crate::act;
 use crate::table;
 use rules::Cycle;
 use rules::Stepped;
@@ -13,10 +12,10 @@ pub fn step(u: Unit, c: Cycle) -> Stepped
 {
     let r = u.registers;
     let t = u.table;
-    let place = act::place_of(r, c);
+    let place = decide::place_of(r, c);
     let i = (place % Unit::SEGMENTS) as usize;
     let d = t[i];
-    let p = act::act(r, d, c);
+    let p = decide::act(r, d, c);
     let answer = p.answer;
     let registers = p.registers;
     let change = p.change;

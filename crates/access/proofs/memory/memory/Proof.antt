@@ -21,39 +21,12 @@ memory-spec =
       ← c .aborted .ensures,
     ))
     (λ c κs. search needs)
-    (λ c. search needs)
-    (λ c κs. search needs)
-    (λ c. search needs)
-    (λ c κs. search needs)
-    (λ c. search needs)
     (λ c κs. search needs)
     (λ c. simp (
-      c .before .before .before .before .if1 .left,
-      ← c .before .before .before .before .before .before .before .before .is-fetch .ensures,
-      ← c .before .before .before .before .before .before .before .way-of .ensures,
-      ← c .before .before .before .before .before .before .lines-of .ensures,
-      ← c .before .before .before .begun .ensures,
-    ) (simp (
-      c .before .enum-told .given .1,
-      ← c .accessed .ensures,
+      c .before .before .if1 .left,
+      ← c .before .before .before .before .before .before .is-fetch .ensures,
+      ← c .before .before .before .before .before .way-of .ensures,
+      ← c .before .before .before .before .lines-of .ensures,
+      ← c .before .begun .ensures,
+      ← c .through .ensures,
     )))
-    (λ c. simp (
-      c .before .before .before .before .if1 .left,
-      ← c .before .before .before .before .before .before .before .before .is-fetch .ensures,
-      ← c .before .before .before .before .before .before .before .way-of .ensures,
-      ← c .before .before .before .before .before .before .lines-of .ensures,
-      ← c .before .before .before .begun .ensures,
-    ) (simp (
-      c .before .enum-told2 .given .1,
-      ← c .untranslated .ensures,
-    )))
-    (λ c. simp (
-      c .before .before .before .before .if1 .left,
-      ← c .before .before .before .before .before .before .before .before .is-fetch .ensures,
-      ← c .before .before .before .before .before .before .before .way-of .ensures,
-      ← c .before .before .before .before .before .before .lines-of .ensures,
-      ← c .before .before .before .begun .ensures,
-    ) (simp (
-      c .before .enum-told3 .given .1,
-      ← c .untranslated2 .ensures,
-    ))))

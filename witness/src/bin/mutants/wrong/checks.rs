@@ -19,6 +19,18 @@ wrong! { Checks:
             Document01::outside(descriptor, cycle) || down && cycle.offset == descriptor.limit
         }
     }
+    StackEdgeTooLow "the block below the limit is inside, downward" {
+        fn outside(descriptor: &Descriptor, cycle: &Cycle) -> bool {
+            let below = descriptor.has(attribute::DIRW) && cycle.offset.checked_add(1) == Some(descriptor.limit);
+            Document01::outside(descriptor, cycle) && !below
+        }
+    }
+    LimitEdgeTooHigh "the block above the limit is inside, upward" {
+        fn outside(descriptor: &Descriptor, cycle: &Cycle) -> bool {
+            let above = !descriptor.has(attribute::DIRW) && descriptor.limit.checked_add(1) == Some(cycle.offset);
+            Document01::outside(descriptor, cycle) && !above
+        }
+    }
     StackOfLimitBlocks "a DIRW range is measured as limit + 1 blocks from the top" {
         fn outside(descriptor: &Descriptor, cycle: &Cycle) -> bool {
             match descriptor.has(attribute::DIRW) {

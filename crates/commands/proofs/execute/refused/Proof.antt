@@ -1,9 +1,0 @@
--- `commands::execute::refused` meets its contract: what the calls ensure, put together. Assumes nothing.
-use Rattle.rules.specs.Refusals.{refused}
-use borrow.Author.Needs.{needs}
-use Rattle.commands.proofs.execute.refused.Statement.{statement}
-use Rattle.commands.proofs.execute.refused.Tie as tie
-
-pub refused-spec : {M : Type 1} → statement M
-unfolding refused
-refused-spec = tie.close (tie.spec (λ c κs. search needs) (λ c. cc))

@@ -1,0 +1,18 @@
+-- `commands::single::entry` meets its contract: what the calls ensure, put together. Assumes nothing.
+use Rattle.rules.specs.Commands.{entry}
+use borrow.Author.Needs.{needs}
+use Rattle.commands.proofs.single.entry.Statement.{statement}
+use Rattle.commands.proofs.single.entry.Tie as tie
+
+pub entry-spec : {M : Type 1} → statement M
+unfolding entry
+entry-spec =
+    tie.close
+    (tie.spec
+    (λ c κs. search needs)
+    (λ c κs. search needs)
+    (λ c κs. search needs)
+    (λ c κs. search needs)
+    (λ c κs. search needs)
+    (λ c κs. search needs)
+    (λ c. cc))

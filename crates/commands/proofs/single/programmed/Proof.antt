@@ -1,0 +1,9 @@
+-- `commands::single::programmed` meets its contract: what the calls ensure, put together. Assumes nothing.
+use Rattle.rules.specs.Commands.{programmed}
+use borrow.Author.Needs.{needs}
+use Rattle.commands.proofs.single.programmed.Statement.{statement}
+use Rattle.commands.proofs.single.programmed.Tie as tie
+
+pub programmed-spec : {M : Type 1} → statement M
+unfolding programmed
+programmed-spec = tie.close (tie.spec (λ c κs. search needs) (λ c κs. search needs) (λ c κs. search needs) (λ c. cc))

@@ -1,0 +1,15 @@
+-- `commands::single::restarted` meets its contract: what the calls ensure, put together. Assumes nothing.
+use Rattle.rules.specs.Commands.{restarted, controlled, cleared}
+use borrow.Author.Needs.{needs}
+use Rattle.commands.proofs.single.restarted.Statement.{statement}
+use Rattle.commands.proofs.single.restarted.Tie as tie
+
+pub restarted-spec : {M : Type 1} → statement M
+unfolding restarted controlled cleared
+restarted-spec =
+    tie.close
+    (tie.spec
+    (λ c κs. search needs)
+    (λ c κs. search needs)
+    (λ c κs. search needs)
+    (λ c. simp (c .with-notes .ensures, c .before .with-vtr .ensures, c .before .before .with-control .ensures)))

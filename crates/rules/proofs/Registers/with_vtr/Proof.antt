@@ -1,9 +1,0 @@
--- `rules::Registers::with_vtr` meets its contract: the code is the definition. Assumes nothing.
-use mathlib.Core.Path.{refl}
-use Rattle.rules.specs.Commands.{cleared}
-use Rattle.rules.proofs.Registers.with_vtr.Statement.{statement}
-use Rattle.rules.proofs.Registers.with_vtr.Tie as tie
-
-pub with-vtr-spec : {M : Type 1} → statement M
-unfolding cleared
-with-vtr-spec = tie.close (tie.spec (λ c. refl))
