@@ -1,10 +1,6 @@
 // Document 01, "Fetch" and "Checks": what is decided in a memory cycle.
 ghost use mathlib.Core.Path.{_≡_};
 ghost use Rattle.rules.specs.Memory.{accessed, through, memory};
-use checks::length;
-use checks::rights;
-use checks::translation;
-use marks::fetch;
 use rules::Cycle;
 use rules::Decision;
 use rules::Descriptor;

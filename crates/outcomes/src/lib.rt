@@ -1,8 +1,6 @@
 // Document 01, "Fetch" and "SUP": what a memory cycle comes to: aborted, not translated, or checked.
 ghost use mathlib.Core.Path.{_≡_};
 ghost use Rattle.rules.specs.Memory.{seen, aborted, untranslated, checked};
-use marks::fetch;
-use marks::touch;
 use recording::record;
 use rules::Answer;
 use rules::Change;

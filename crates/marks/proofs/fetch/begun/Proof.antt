@@ -1,9 +1,0 @@
--- `marks::fetch::begun` meets its contract: what the calls ensure, put together. Assumes nothing.
-use Rattle.rules.specs.Memory.{begun}
-use borrow.Author.Needs.{needs}
-use Rattle.marks.proofs.fetch.begun.Statement.{statement}
-use Rattle.marks.proofs.fetch.begun.Tie as tie
-
-pub begun-spec : {M : Type 1} → statement M
-unfolding begun
-begun-spec = tie.close (tie.spec (λ c κs. search needs) (λ c. cc))

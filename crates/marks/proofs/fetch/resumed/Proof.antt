@@ -1,9 +1,0 @@
--- `marks::fetch::resumed` meets its contract: what the calls ensure, put together. Assumes nothing.
-use Rattle.rules.specs.Memory.{resumed}
-use borrow.Author.Needs.{needs}
-use Rattle.marks.proofs.fetch.resumed.Statement.{statement}
-use Rattle.marks.proofs.fetch.resumed.Tie as tie
-
-pub resumed-spec : {M : Type 1} → statement M
-unfolding resumed
-resumed-spec = tie.close (tie.spec (λ c κs. search needs) (λ c. cc))
