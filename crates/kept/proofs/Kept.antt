@@ -17,10 +17,10 @@ use Rattle.rules.specs.declared.Unit.{Unit}
 use Rattle.runs.proofs.Refusal.{refusal-leaves}
 use Rattle.runs.proofs.Undamaged.{undamaged-after}
 use Rattle.snapshot.specs.Snapshot.{unitIn, bytesOf}
 use Rattle.distantarm.specs.Interface.{strange, answerBy, answerOf, bytesBy, bytesAfter}
-use Rattle.distantarm.specs.Kept.{Bytes, RefusalKeeps, calls, CallsAreTheRun}
-use Rattle.distantarm.proofs.PutBack.{put-back}
-use Rattle.distantarm.proofs.FoundAgain.{found-again, never-strange}
+use Rattle.kept.specs.Kept.{Bytes, RefusalKeeps, calls, CallsAreTheRun}
+use Rattle.kept.proofs.PutBack.{put-back}
+use Rattle.kept.proofs.FoundAgain.{found-again, never-strange}
 
 by : (b : Bool) (unit : List ℕ) (c : Cycle) (n : ℕ) → Bytes unit → strange unit ≡ b → answerBy b unit c .kind ≡ Refused n
     → bytesBy b unit c ≡ unit

@@ -17,8 +17,8 @@ use Rattle.rules.specs.declared.Unit.{Unit}
 use Rattle.snapshot.specs.Snapshot.{descriptorIn, tableIn, notesIn, registersIn, unitIn}
 use Rattle.snapshot.specs.Snapshot.{descriptorBytes, tableBytes, notesByte, registerBytes, bytesOf}
 use Rattle.snapshot.proofs.Tables.{bytes-length}
 use Rattle.distantarm.specs.Interface.{strange}
-use Rattle.distantarm.specs.Kept.{FoundAgain}
+use Rattle.kept.specs.Kept.{FoundAgain}
 
 -- ---- the notes: found again, and never strange
 notesBy : (r w o h : Bool) → Notes

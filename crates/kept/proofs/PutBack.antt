@@ -15,7 +15,7 @@ use Rattle.stores.proofs.Laws.{sets-append}
 use Rattle.snapshot.specs.Snapshot.{descriptorIn, tableIn, notesIn, registersIn, unitIn}
 use Rattle.snapshot.specs.Snapshot.{descriptorBytes, tableBytes, notesByte, registerBytes, bytesOf}
 use Rattle.snapshot.proofs.Tables.{more-bytes, bytes-length}
-use Rattle.distantarm.specs.Kept.{Bytes}
+use Rattle.kept.specs.Kept.{Bytes}
 
 -- ---- the notes, by a test that antt computes at each of the sixteen bytes
 sameNotes : ℕ → Bool

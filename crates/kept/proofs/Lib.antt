@@ -1,0 +1,3 @@
+pub mod PutBack
+pub mod FoundAgain
+pub mod Kept

@@ -1,0 +1,1 @@
+// Theorems about a unit kept in bytes and stepped through the C interface.
