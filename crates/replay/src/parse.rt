@@ -1,0 +1,150 @@
+// The lines of a script: which kind each is, and what it says.
+use rules::Control;
+use rules::Cycle;
+use rules::Descriptor;
+use rules::Faults;
+use rules::Fetched;
+use rules::Notes;
+use rules::Registers;
+use rules::Unit;
+
+// The byte at a place of the line, and a line feed past its end.
+pub fn byte_at(line: &[u8], i: usize) -> u8 {
+    if i < line.len() {
+        return line[i];
+    }
+    b'\n'
+}
+
+// The value of a hexadecimal digit, and 16 for any other byte. The bit 32 makes a letter small.
+fn digit_of(b: u8) -> u8 {
+    let small = b | 32;
+    if (b'0' <= b) & (b <= b'9') {
+        return b % 16;
+    }
+    if (b'a' <= small) & (small <= b'f') {
+        return b % 16 + 9;
+    }
+    16
+}
+
+// What a byte says where a form has `f`: at `h` the value of a hexadecimal digit; 16 where it is `f` itself; else 17, for no.
+fn taken(b: u8, f: u8) -> u8 {
+    let d = digit_of(b);
+    if (f == b'h') & (d < 16) {
+        return d;
+    }
+    if b == f {
+        return 16;
+    }
+    17
+}
+
+// The form of the lines that begin with a letter: `h` stands for a hexadecimal digit, every other byte for itself.
+fn form_of(letter: u8) -> [u8; 32] {
+    match letter {
+        b'U' => *b"U hh hh hh hh hh hh hh hh hh hh\n",
+        b'D' => *b"D hh hhhh hh hh\n\n\n\n\n\n\n\n\n\n\n\n\n\n\n\n\n",
+        b'C' => *b"C hh hh hh hh hh\n\n\n\n\n\n\n\n\n\n\n\n\n\n\n\n",
+        _ => [0; 32],
+    }
+}
+
+// What a line says: its letter, and behind that its numbers of two digits, in their order. A line of no form says 0.
+fn said_by(line: &[u8], form: [u8; 32]) -> [u8; 16] {
+    let mut said = [0; 16];
+    let mut digits = 2;
+    for i in 0..32 {
+        let d = taken(byte_at(line, i), form[i]);
+        if 16 < d {
+            return [0; 16];
+        }
+        if d < 16 {
+            let k = digits / 2 % 16;
+            said[k] = said[k] % 16 * 16 + d;
+            digits += 1;
+        }
+    }
+    said[0] = form[0];
+    said
+}
+
+// The same. A descriptor number above %3F names none.
+pub fn said(line: &[u8]) -> [u8; 16] {
+    let mut said = said_by(line, form_of(byte_at(line, 0)));
+    if (said[0] == b'D') & (said[1] >= Unit::SEGMENTS) {
+        said[0] = 0;
+    }
+    said
+}
+
+fn control_in(said: [u8; 16]) -> Control {
+    Control {
+        mr: said[1],
+        sar: said[2],
+        dscr: said[3],
+    }
+}
+
+fn faults_in(said: [u8; 16]) -> Faults {
+    Faults {
+        vtr: said[4],
+        vsn: said[5],
+        voff: said[6],
+        bcsr: said[7],
+    }
+}
+
+fn fetched_in(said: [u8; 16]) -> Fetched {
+    Fetched {
+        isn: said[8],
+        ioff: said[9],
+    }
+}
+
+// The notes, from bit 0 up: request, await, own, hold.
+fn notes_of(n: u8) -> Notes {
+    Notes {
+        request: n & 1 != 0,
+        awaits: n & 2 != 0,
+        own: n & 4 != 0,
+        hold: n & 8 != 0,
+    }
+}
+
+// The registers of a `U` line.
+pub fn registers_in(said: [u8; 16]) -> Registers {
+    Registers {
+        control: control_in(said),
+        faults: faults_in(said),
+        fetched: fetched_in(said),
+        notes: notes_of(said[10]),
+    }
+}
+
+// The descriptor of a `D` line, whose number is the first value.
+pub fn descriptor_in(said: [u8; 16]) -> Descriptor {
+    let high = said[2] as u16;
+    let low = said[3] as u16;
+    Descriptor {
+        base: high % 256 * 256 + low % 256,
+        limit: said[4],
+        attributes: said[5],
+    }
+}
+
+// The cycle of a `C` line. Its flags, from bit 0 up: read, normal, DMA, select, reset line.
+pub fn cycle_in(said: [u8; 16]) -> Cycle {
+    let f = said[2];
+    Cycle {
+        status: said[1],
+        read: f & 1 != 0,
+        normal: f & 2 != 0,
+        dma: f & 4 != 0,
+        select: f & 8 != 0,
+        segment: said[3],
+        offset: said[4],
+        byte: said[5],
+        reset: f & 16 != 0,
+    }
+}
