@@ -7,6 +7,7 @@ use rules::Fetched;
 use rules::Notes;
 use rules::Registers;
 use rules::Unit;
+use rules::flags;
 
 // The byte at a place of the line, and a line feed past its end.
 pub fn byte_at(line: &[u8], i: usize) -> u8 {
@@ -28,53 +29,52 @@ fn digit_of(b: u8) -> u8 {
     16
 }
 
-// What a byte says where a form has `f`: at `h` the value of a hexadecimal digit; 16 where it is `f` itself; else 17, for no.
-fn taken(b: u8, f: u8) -> u8 {
-    let d = digit_of(b);
-    if (f == b'h') & (d < 16) {
-        return d;
-    }
-    if b == f {
-        return 16;
-    }
-    17
-}
-
-// The form of the lines that begin with a letter: `h` stands for a hexadecimal digit, every other byte for itself.
+// The form of the lines that begin with a letter. Two small letters stand for a number of two hexadecimal digits, in the place that the
+// letter has in the alphabet, and every other byte stands for itself.
 fn form_of(letter: u8) -> [u8; 32] {
     match letter {
-        b'U' => *b"U hh hh hh hh hh hh hh hh hh hh\n",
-        b'D' => *b"D hh hhhh hh hh\n\n\n\n\n\n\n\n\n\n\n\n\n\n\n\n\n",
-        b'C' => *b"C hh hh hh hh hh\n\n\n\n\n\n\n\n\n\n\n\n\n\n\n\n",
+        b'U' => *b"U aa bb cc dd ee ff gg hh ii jj\n",
+        b'D' => *b"D kk llmm nn oo\n\n\n\n\n\n\n\n\n\n\n\n\n\n\n\n\n",
+        b'C' => *b"C aa bb cc dd ee\n\n\n\n\n\n\n\n\n\n\n\n\n\n\n\n",
         _ => [0; 32],
     }
 }
 
-// What a line says: its letter, and behind that its numbers of two digits, in their order. A line of no form says 0.
+// Whether a byte may stand where a form has `f`.
+fn fits(b: u8, f: u8) -> bool {
+    if b'a' <= f {
+        return digit_of(b) < 16;
+    }
+    b == f
+}
+
+// A number after a byte that stands where a form has `f`: one more digit at a small letter.
+fn grown(v: u8, b: u8, f: u8) -> u8 {
+    if b'a' <= f {
+        return v % 16 * 16 + digit_of(b) % 16;
+    }
+    v
+}
+
+// What a line says: its numbers, each in its place, and in place 0 its letter, or 0 where it is not of the form.
 fn said_by(line: &[u8], form: [u8; 32]) -> [u8; 16] {
     let mut said = [0; 16];
-    let mut digits = 2;
+    let mut good = true;
     for i in 0..32 {
-        let d = taken(byte_at(line, i), form[i]);
-        if 16 < d {
-            return [0; 16];
-        }
-        if d < 16 {
-            let k = digits / 2 % 16;
-            said[k] = said[k] % 16 * 16 + d;
-            digits += 1;
-        }
+        let b = byte_at(line, i);
+        let f = form[i];
+        let k = (f % 16) as usize;
+        said[k] = grown(said[k], b, f);
+        good = good & fits(b, f);
     }
-    said[0] = form[0];
+    said[0] = flags::pick(good, form[0], 0);
     said
 }
 
 // The same. A descriptor number above %3F names none.
 pub fn said(line: &[u8]) -> [u8; 16] {
     let mut said = said_by(line, form_of(byte_at(line, 0)));
-    if (said[0] == b'D') & (said[1] >= Unit::SEGMENTS) {
-        said[0] = 0;
-    }
+    said[0] = flags::pick(said[11] < Unit::SEGMENTS, said[0], 0);
     said
 }
 
@@ -122,14 +122,14 @@ pub fn registers_in(said: [u8; 16]) -> Registers {
     }
 }
 
-// The descriptor of a `D` line, whose number is the first value.
+// The descriptor of a `D` line.
 pub fn descriptor_in(said: [u8; 16]) -> Descriptor {
-    let high = said[2] as u16;
-    let low = said[3] as u16;
+    let high = said[12] as u16;
+    let low = said[13] as u16;
     Descriptor {
         base: high % 256 * 256 + low % 256,
-        limit: said[4],
-        attributes: said[5],
+        limit: said[14],
+        attributes: said[15],
     }
 }
 

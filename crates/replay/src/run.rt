@@ -28,7 +28,7 @@ fn with_descriptor(u: Unit, said: [u8; 16]) -> Unit {
     let d = parse::descriptor_in(said);
     let t = u.table;
     let registers = u.registers;
-    let table = table::changed(Change::Put(d), said[1], t);
+    let table = table::changed(Change::Put(d), said[11], t);
     Unit { table, registers }
 }
 
@@ -66,13 +66,14 @@ fn told(line: &[u8]) -> [u8; 16] {
     said
 }
 
-// The length of the first line: up to its line feed, or all where there is none.
-fn line_length(rest: &[u8]) -> usize
-    ensures { λ r. ⌜ r ≤ length (now (rest .entry)) ⌝ }
+// Where the line from an index on ends: at its line feed, or where the script does.
+fn line_end(script: &[u8], from: usize) -> usize
+    requires { ⌜ from ≤ length (now script) ⌝ }
+    ensures { λ r. ⌜ (from ≤ r) × (r ≤ length (now (script .entry))) ⌝ }
 {
-    let mut i = 0;
-    while i < rest.len() {
-        if rest[i] == b'\n' {
+    let mut i = from;
+    while i < script.len() {
+        if script[i] == b'\n' {
             return i;
         }
         i += 1;
@@ -85,7 +86,7 @@ pub fn replay(script: &[u8]) {
     let mut unit = Unit::power_on();
     let mut from = 0;
     while from < script.len() {
-        let end = from + line_length(&script[from..]);
+        let end = line_end(script, from);
         unit = obeyed(unit, told(&script[from..end]));
         from = end + 1;
     }

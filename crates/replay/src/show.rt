@@ -9,25 +9,29 @@ use rules::Stepped;
 use rules::Unit;
 use rules::flags;
 
+fn text(s: &[u8]) {
+    io::write_all(STDOUT_FILENO, s);
+}
+
 // A line that asks for nothing: an empty one and one that starts with `#` as it is, and `?` for any other.
 pub fn other(line: &[u8]) {
     let first = byte_at(line, 0);
     if (first == b'#') | (first == b'\n') {
-        io::write_all(STDOUT_FILENO, line);
+        text(line);
     } else {
-        io::write_all(STDOUT_FILENO, b"?");
+        text(b"?");
     }
-    io::write_all(STDOUT_FILENO, b"\n");
+    text(b"\n");
 }
 
 // The answer, as mmurun's line of record 0 has it behind the number.
 fn answer(a: Answer) {
     let mut six = [0u8; 6];
     pack::put(&mut six, 0, a);
-    let mut text = [0u8; 25];
-    let n = lines::put_lines(&six, 1, &mut text, 0);
+    let mut line = [0u8; 25];
+    let n = lines::put_lines(&six, 1, &mut line, 0);
     if 3 < n {
-        io::write_all(STDOUT_FILENO, &text[2..n - 1]);
+        text(&line[2..n - 1]);
     }
 }
 
@@ -39,10 +43,11 @@ fn notes_byte(n: Notes) -> u8 {
         | flags::flag_if(n.hold, 8)
 }
 
-// The registers in the order of a `U` line, then a descriptor in that of a `D` line.
+// The registers and a descriptor, in the places that the lines of a script give them.
 fn values_of(r: Registers, place: u8, d: Descriptor) -> [u8; 16] {
     let notes = r.notes;
     [
+        0,
         r.control.mr,
         r.control.sar,
         r.control.dscr,
@@ -58,31 +63,35 @@ fn values_of(r: Registers, place: u8, d: Descriptor) -> [u8; 16] {
         (d.base % 256) as u8,
         d.limit,
         d.attributes,
-        0,
     ]
 }
 
-// Digit k of the values, each of which has two: a capital hexadecimal one.
-fn digit(values: [u8; 16], k: usize) -> u8 {
-    let v = values[k / 2 % 16];
-    let d = flags::pick(k % 2 == 0, v / 16, v) % 16;
+// The capital hexadecimal digit of a number's low four bits.
+fn digit(n: u8) -> u8 {
+    let d = n % 16;
     if d < 10 {
         return 48 + d;
     }
     55 + d
 }
 
-// The values in the form that ends a cycle's line, where each `h` takes the next digit.
-fn numbers(values: [u8; 16]) {
-    let mut text = *b" | hh hh hh hh hh hh hh hh hh hh | hh hhhh hh hh\n";
-    let mut digits = 0;
-    for i in 0..text.len() {
-        if text[i] == b'h' {
-            text[i] = digit(values, digits);
-            digits += 1;
-        }
+// What the text has where its form has `f`: at a capital the first digit of the number in that place, at a small letter the second.
+fn filled(f: u8, values: [u8; 16]) -> u8 {
+    let v = values[(f % 16) as usize];
+    match f {
+        b'A'..=b'O' => digit(v / 16),
+        b'a'..=b'o' => digit(v),
+        _ => f,
     }
-    io::write_all(STDOUT_FILENO, &text);
+}
+
+// The values in the form that ends a cycle's line.
+fn numbers(values: [u8; 16]) {
+    let mut line = *b" | Aa Bb Cc Dd Ee Ff Gg Hh Ii Jj | Kk LlMm Nn Oo\n";
+    for i in 0..49 {
+        line[i] = filled(line[i], values);
+    }
+    text(&line);
 }
 
 // The unit's registers, and its descriptor at a place modulo 64.

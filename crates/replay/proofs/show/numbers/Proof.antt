@@ -1,18 +1,16 @@
--- `replay::show::numbers` is safe and ends: its turns are counted, and no turn passes more than one digit. Assumes nothing.
+-- `replay::show::numbers` is safe and ends: its turns are counted. Assumes nothing.
 use mathlib.Core.Path.{_≡_}
-use mathlib.Core.Logic.{⊎-elim}
 use Prim.Native.Nat.{_≤_, _-_}
 use borrow.Author.Needs.{needs}
-use native.Mathlib.Omega.{arith}
-use lib.ListN.{length, length-set}
+use lib.ListN.{length}
 use Rattle.replay.proofs.show.numbers.Statement.{statement}
 use Rattle.replay.proofs.show.numbers.Tie as tie
 
 abbrev Inv-loop : tie.InvT-loop
-Inv-loop values text₀ digits₀ i₀ text digits i = (i ≤ 49) × (digits ≤ i) × (length text ≡ 49)
+Inv-loop values line₀ i₀ line i = (i ≤ 49) × (length line ≡ 49)
 
 abbrev μ-loop : tie.MeasureT-loop
-μ-loop values text₀ digits₀ i₀ text digits i = 49 - i
+μ-loop values line₀ i₀ line i = 49 - i
 
 pub numbers-spec : {M : Type 1} → statement M
 numbers-spec =
@@ -27,11 +25,6 @@ numbers-spec =
     (λ c. search needs)
     (λ c. search needs)
     (λ c. search needs)
-    (λ c.
-        ⊎-elim
-        (λ w. (omega arith, omega arith, simp (w .2, length-set) (omega arith)))
-        (λ w. (omega arith, omega arith, simp (w .1) (omega arith)))
-        (c .if1 .came))
     (λ c. search needs)
     (λ c κs. search needs)
     (λ c. search needs))
