@@ -56,7 +56,8 @@ fn grown(v: u8, b: u8, f: u8) -> u8 {
     v
 }
 
-// What a line says: its numbers, each in its place, and in place 0 its letter, or 0 where it is not of the form.
+// What a line says: its numbers, each in its place, and in place 0 its letter, or 0 where it is not of the form. A descriptor number above
+// %3F names none.
 fn said_by(line: &[u8], form: [u8; 32]) -> [u8; 16] {
     let mut said = [0; 16];
     let mut good = true;
@@ -67,39 +68,12 @@ fn said_by(line: &[u8], form: [u8; 32]) -> [u8; 16] {
         said[k] = grown(said[k], b, f);
         good = good & fits(b, f);
     }
-    said[0] = flags::pick(good, form[0], 0);
+    said[0] = flags::pick(good & (said[11] < Unit::SEGMENTS), form[0], 0);
     said
 }
 
-// The same. A descriptor number above %3F names none.
 pub fn said(line: &[u8]) -> [u8; 16] {
-    let mut said = said_by(line, form_of(byte_at(line, 0)));
-    said[0] = flags::pick(said[11] < Unit::SEGMENTS, said[0], 0);
-    said
-}
-
-fn control_in(said: [u8; 16]) -> Control {
-    Control {
-        mr: said[1],
-        sar: said[2],
-        dscr: said[3],
-    }
-}
-
-fn faults_in(said: [u8; 16]) -> Faults {
-    Faults {
-        vtr: said[4],
-        vsn: said[5],
-        voff: said[6],
-        bcsr: said[7],
-    }
-}
-
-fn fetched_in(said: [u8; 16]) -> Fetched {
-    Fetched {
-        isn: said[8],
-        ioff: said[9],
-    }
+    said_by(line, form_of(byte_at(line, 0)))
 }
 
 // The notes, from bit 0 up: request, await, own, hold.
@@ -114,11 +88,24 @@ fn notes_of(n: u8) -> Notes {
 
 // The registers of a `U` line.
 pub fn registers_in(said: [u8; 16]) -> Registers {
+    let notes = notes_of(said[10]);
     Registers {
-        control: control_in(said),
-        faults: faults_in(said),
-        fetched: fetched_in(said),
-        notes: notes_of(said[10]),
+        control: Control {
+            mr: said[1],
+            sar: said[2],
+            dscr: said[3],
+        },
+        faults: Faults {
+            vtr: said[4],
+            vsn: said[5],
+            voff: said[6],
+            bcsr: said[7],
+        },
+        fetched: Fetched {
+            isn: said[8],
+            ioff: said[9],
+        },
+        notes,
     }
 }
 

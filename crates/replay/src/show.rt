@@ -2,9 +2,7 @@
 use crate::parse::byte_at;
 use libc::STDOUT_FILENO;
 use rules::Answer;
-use rules::Descriptor;
 use rules::Notes;
-use rules::Registers;
 use rules::Stepped;
 use rules::Unit;
 use rules::flags;
@@ -43,9 +41,12 @@ fn notes_byte(n: Notes) -> u8 {
         | flags::flag_if(n.hold, 8)
 }
 
-// The registers and a descriptor, in the places that the lines of a script give them.
-fn values_of(r: Registers, place: u8, d: Descriptor) -> [u8; 16] {
+// The registers, and the descriptor at a number modulo 64, in the places that the lines of a script give them.
+fn values_of(u: Unit, place: u8) -> [u8; 16] {
+    let r = u.registers;
     let notes = r.notes;
+    let i = (place % Unit::SEGMENTS) as usize;
+    let d = u.table[i];
     [
         0,
         r.control.mr,
@@ -94,18 +95,10 @@ fn numbers(values: [u8; 16]) {
     text(&line);
 }
 
-// The unit's registers, and its descriptor at a place modulo 64.
-fn state(u: Unit, place: u8) {
-    let i = (place % Unit::SEGMENTS) as usize;
-    let r = u.registers;
-    let d = u.table[i];
-    numbers(values_of(r, place, d));
-}
-
 // A cycle's line: its answer, and the unit after it.
 pub fn cycle(s: Stepped, place: u8) {
     let a = s.answer;
     answer(a);
     let u = s.unit;
-    state(u, place);
+    numbers(values_of(u, place));
 }
