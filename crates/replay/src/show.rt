@@ -76,12 +76,14 @@ fn digit(n: u8) -> u8 {
     55 + d
 }
 
-// What the text has where its form has `f`: at a capital the first digit of the number in that place, at a small letter the second.
+// What the text has where its form has `f`: at a capital (%41 to %4F) the first digit of the number in that place, at a small letter (%61
+// to %6F) the second.
 fn filled(f: u8, values: [u8; 16]) -> u8 {
     let v = values[(f % 16) as usize];
-    match f {
-        b'A'..=b'O' => digit(v / 16),
-        b'a'..=b'o' => digit(v),
+    let letters = f / 16;
+    match letters {
+        4 => digit(v / 16),
+        6 => digit(v),
         _ => f,
     }
 }
