@@ -1,0 +1,32 @@
+-- `readings::through` is safe and ends: its turns are counted. Assumes nothing.
+use Prim.Native.Nat.{_-_}
+use borrow.Author.Needs.{needs}
+use Rattle.readings.proofs.through.Statement.{statement}
+use Rattle.readings.proofs.through.Tie as tie
+
+abbrev Inv-loop : tie.InvT-loop
+Inv-loop trace answers u₀ n₀ good₀ counter₀ end u n good counter = Unit {0}
+
+abbrev μ-loop : tie.MeasureT-loop
+μ-loop trace answers u₀ n₀ good₀ counter₀ end u n good counter = end - counter
+
+pub through-spec : {M : Type 1} → statement M
+through-spec =
+    tie.close
+    (tie.spec
+    Inv-loop
+    μ-loop
+    (λ c κs. search needs)
+    (λ c κs. search needs)
+    (λ c. search needs)
+    (λ c κs. search needs)
+    (λ c. search needs)
+    (λ c. search needs)
+    (λ c κs. search needs)
+    (λ c. search needs)
+    (λ c. search needs)
+    (λ c. search needs)
+    (λ c. search needs)
+    (λ c κs. search needs)
+    (λ c κs. search needs)
+    (λ c. search needs))
