@@ -1,10 +1,11 @@
-// Reads a trace from standard input, goes through it with the reader, steps a unit in place with each cycle, and holds each answer to that of
-// the run of the same trace. What it prints is mmurun's text of the trace, and besides lines that start with `#`.
+// Reads a trace from standard input, goes through it with the reader, steps a unit in place with each cycle, and holds the answers to those of
+// the run of the same trace. What it prints is mmurun's text of the trace, from the unit's answers, and then lines that start with `#`.
 mod print;
 
 use header::byte_at;
 use lent::step_by_lending;
 use libc::STDIN_FILENO;
+use reader::Found;
 use reader::Step;
 use reader::read_at;
 use reader::shown_at;
@@ -25,53 +26,63 @@ fn asked(trace: &[u8], n: usize) {
     print::reader(n, shown, no, found.next);
 }
 
-// Whether the six bytes are those of record n among the run's answers.
-fn same(six: [u8; 6], n: usize, answers: &[u8]) -> bool {
-    let from = n % header::MOST * pack::BYTES;
-    let mut same = true;
-    for i in 0..6 {
-        same = same & (six[i] == byte_at(answers, from + i));
+// Packs the answer to record n in its place, as the run does.
+fn keep(answers: &mut [u8], n: usize, a: Answer) {
+    if n < answers.len() / pack::BYTES {
+        pack::put(answers, n * pack::BYTES, a);
     }
-    same
 }
 
-// Prints the answer to record n, and says whether it is the run's.
-fn agrees(a: Answer, n: usize, answers: &[u8]) -> bool {
-    let mut six = [0u8; 6];
-    pack::put(&mut six, 0, a);
-    print::record(n, &six);
-    let same = same(six, n, answers);
-    if !same {
-        print::number(b"# NOT the run's answer: record ", n);
+// The unit after what the reader found at number n.
+fn stepped(u: Unit, found: Found, n: usize, answers: &mut [u8]) -> Unit {
+    let step = found.step;
+    if let Step::Record(c) = step {
+        let s = step_by_lending(u, c);
+        let a = s.answer;
+        keep(answers, n, a);
+        return s.unit;
     }
-    same
+    u
 }
 
-// Every record that the reader gives, by its own number, and what it says behind the last.
-fn through(trace: &[u8], answers: &[u8]) {
+// The answers to every record that the reader gives, by its own number, at which it is asked again. The result is its number at the end.
+fn through(trace: &[u8], answers: &mut [u8]) -> usize {
     let mut u = Unit::power_on();
     let mut n = 0;
-    let mut good = true;
     for _ in 0..count(trace) {
         let found = read_at(trace, n);
-        let step = found.step;
-        if let Step::Record(c) = step {
-            let s = step_by_lending(u, c);
-            u = s.unit;
-            let a = s.answer;
-            good = good & agrees(a, n, answers);
-        }
+        u = stepped(u, found, n, answers);
         n = found.next;
     }
-    asked(trace, n);
-    print::verdict(good);
+    n
 }
 
-// A trace, its run from power-on, and the same records through the reader.
-fn whole(trace: &[u8], answers: &mut [u8]) {
-    let no = run::run(trace, answers);
-    print::head(no, count(trace));
-    through(trace, answers);
+// How many records have the same answer in both, up to the first that has not.
+fn agreeing(ours: &[u8], theirs: &[u8], records: usize) -> usize {
+    for i in 0..ours.len() {
+        if ours[i] != byte_at(theirs, i) {
+            return i / pack::BYTES;
+        }
+    }
+    records
+}
+
+// Room for the answers of the longest trace.
+fn room() -> [u8; 96000] {
+    [0; 96000]
+}
+
+// A trace: its answers through the reader, and those of its run.
+fn whole(trace: &[u8]) {
+    let mut theirs = room();
+    let no = run::run(trace, &mut theirs);
+    let mut ours = room();
+    let end = through(trace, &mut ours);
+    let records = count(trace);
+    print::head(no, records);
+    print::records(&ours, records);
+    print::agreement(agreeing(&ours, &theirs, records), records);
+    asked(trace, end);
 }
 
 // A trace of one record with one byte changed, asked at its record and past every count.
@@ -82,16 +93,10 @@ fn bad(place: usize, byte: u8) {
     asked(&trace, 20000);
 }
 
-// Room for the answers of the longest trace.
-fn room() -> [u8; 96000] {
-    [0; 96000]
-}
-
 fn main() {
     let mut trace = io::large_buffer();
     let n = io::read_full(STDIN_FILENO, &mut trace);
-    let mut answers = room();
-    whole(&trace[..n], &mut answers);
+    whole(&trace[..n]);
     bad(2, b't');
     bad(4, 2);
     bad(5, 0x3F);

@@ -1,5 +1,6 @@
 // What the program writes.
 use libc::STDOUT_FILENO;
+use lines::put_lines;
 
 fn text(s: &[u8]) {
     io::write_all(STDOUT_FILENO, s);
@@ -11,8 +12,8 @@ fn said(words: &[u8], n: usize) {
     io::print_decimal(STDOUT_FILENO, n as u64);
 }
 
-// The same, as a line.
-pub fn number(words: &[u8], n: usize) {
+// The same, as a line's end.
+fn number(words: &[u8], n: usize) {
     said(words, n);
     text(b"\n");
 }
@@ -26,14 +27,29 @@ pub fn head(no: u8, count: usize) {
     }
 }
 
-// mmurun's line of record n: that of record 0, with another number.
-pub fn record(n: usize, six: &[u8; 6]) {
-    let mut line = [0u8; 25];
-    let end = lines::put_lines(six, 1, &mut line, 0);
-    said(b"", n);
-    if 1 < end {
-        text(&line[1..end]);
+// Room for the lines of 16,000 records.
+fn room() -> [u8; 400000] {
+    [0; 400000]
+}
+
+// The others, from packed answers.
+pub fn records(answers: &[u8], count: usize) {
+    let held = answers.len() / pack::BYTES;
+    if held < count {
+        return;
     }
+    if header::MOST < count {
+        return;
+    }
+    let mut lines = room();
+    let end = put_lines(answers, count, &mut lines, 0);
+    text(&lines[0..end]);
+}
+
+// Whether the first `same` records are all; if not, record `same` is the first whose answer is not the run's.
+pub fn agreement(same: usize, count: usize) {
+    said(b"# as in the run: the first ", same);
+    number(b" of ", count);
 }
 
 // The reader at a number: how many bytes it shows, the number that it refuses by, or 0, and the number that it is at then.
@@ -42,12 +58,4 @@ pub fn reader(n: usize, shown: usize, no: u8, next: usize) {
     said(b", bytes shown ", shown);
     said(b", refusal ", no as usize);
     number(b", then at ", next);
-}
-
-pub fn verdict(good: bool) {
-    if good {
-        text(b"# every answer is the run's\n");
-    } else {
-        text(b"# NOT every answer is the run's\n");
-    }
 }
