@@ -3,12 +3,12 @@ ghost use Prim.Native.Nat.{_≤_};
 ghost use lib.ListN.{length};
 use crate::parse;
 use crate::show;
+use lent::step_by_lending;
 use rules::Change;
 use rules::Cycle;
 use rules::Descriptor;
 use rules::Unit;
 use rules::flags;
-use unit::step;
 use unit::table;
 
 // A unit with the registers of a `U` line, and with a table of zeros.
@@ -37,11 +37,11 @@ fn shown_place(u: Unit, c: Cycle) -> u8 {
     flags::pick(c.status == Unit::COMMAND, u.registers.control.sar, c.segment) % Unit::SEGMENTS
 }
 
-// The unit after the cycle of a `C` line, which is shown.
+// The unit after the cycle of a `C` line, stepped in place, which is shown.
 fn stepped(u: Unit, said: [u8; 16]) -> Unit {
     let c = parse::cycle_in(said);
     let place = shown_place(u, c);
-    let s = step::step(u, c);
+    let s = step_by_lending(u, c);
     show::cycle(s, place);
     s.unit
 }
