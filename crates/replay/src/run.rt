@@ -34,7 +34,12 @@ fn with_descriptor(u: Unit, said: [u8; 16]) -> Unit {
 
 // Whose descriptor a cycle's line shows: that at SAR, as it stood, at status 3, else the segment's.
 fn shown_place(u: Unit, c: Cycle) -> u8 {
-    flags::pick(c.status == Unit::COMMAND, u.registers.control.sar, c.segment) % Unit::SEGMENTS
+    flags::pick(
+        c.status == Unit::COMMAND,
+        u.registers.control.sar,
+        c.segment,
+    )
+        % Unit::SEGMENTS
 }
 
 // The unit after the cycle of a `C` line, stepped in place, which is shown.
