@@ -93,6 +93,7 @@ fn bad(place: usize, byte: u8) {
     asked(&trace, 20000);
 }
 
+// The bad traces meet refusals 5 to 8; the last of them is good, and meets 9.
 fn main() {
     let mut trace = io::large_buffer();
     let n = io::read_full(STDIN_FILENO, &mut trace);

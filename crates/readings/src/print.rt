@@ -2,6 +2,7 @@
 use libc::STDOUT_FILENO;
 use lines::put_lines;
 
+// Some bytes as they are.
 fn text(s: &[u8]) {
     io::write_all(STDOUT_FILENO, s);
 }
@@ -32,7 +33,7 @@ fn room() -> [u8; 400000] {
     [0; 400000]
 }
 
-// The others, from packed answers.
+// The others, from packed answers. A good trace has no more of them than there is room for.
 pub fn records(answers: &[u8], count: usize) {
     let held = answers.len() / pack::BYTES;
     if held < count {

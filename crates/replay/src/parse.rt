@@ -30,7 +30,7 @@ fn digit_of(b: u8) -> u8 {
 }
 
 // The form of the lines that begin with a letter. Two small letters stand for a number of two hexadecimal digits, in the place that the
-// letter has in the alphabet, and every other byte stands for itself.
+// letter has in the alphabet, and every other byte stands for itself. Line feeds fill the form up, as a line reads past its end.
 fn form_of(letter: u8) -> [u8; 32] {
     match letter {
         b'U' => *b"U aa bb cc dd ee ff gg hh ii jj\n",
@@ -72,6 +72,7 @@ fn said_by(line: &[u8], form: [u8; 32]) -> [u8; 16] {
     said
 }
 
+// The same, by the form of the line's own letter.
 pub fn said(line: &[u8]) -> [u8; 16] {
     said_by(line, form_of(byte_at(line, 0)))
 }

@@ -7,6 +7,7 @@ use rules::Stepped;
 use rules::Unit;
 use rules::flags;
 
+// Some bytes as they are.
 fn text(s: &[u8]) {
     io::write_all(STDOUT_FILENO, s);
 }
