@@ -1,147 +1,106 @@
-// Reads traces through the reader, record by record, and steps two units with their cycles: one is lent and stepped where it stands, the
-// other is stepped by value.
-mod compare;
+// Reads a trace from standard input, goes through it with the reader, steps a unit in place with each cycle, and holds the answers to those of
+// the run of the same trace. What it prints is mmurun's text of the trace, from the unit's answers, and then lines that start with `#`.
 mod print;
 
+use header::byte_at;
 use lent::step_by_lending;
+use libc::STDIN_FILENO;
 use reader::Found;
 use reader::Step;
 use reader::read_at;
 use reader::shown_at;
-use rules::Cycle;
+use rules::Answer;
 use rules::Unit;
 use trace::count;
-use unit::step::step;
 
-// Document 01's sample.
-const SAMPLE: [u8; 43] = *b"MBT\x00\x01\x00\x09\
-    \x83\x00\x00\xC0\
-    \x83\x00\x0B\x23\
-    \x83\x00\x0B\x11\
-    \x83\x00\x0B\x20\
-    \x83\x00\x0B\x01\
-    \x18\x00\x15\x00\
-    \x28\x00\x15\x00\
-    \x93\x00\x02\x00\
-    \x14\x00\x00\x00";
-
-// What the sample leaves out: every bit of a record set; DMA and the reset line alone; a code that is not listed; a read of software reset.
-const OTHERS: [u8; 23] = *b"MBT\x00\x01\x00\x04\
-    \xFF\xFF\xFF\xFF\
-    \x40\x80\x00\x00\
-    \x83\x00\x12\x00\
-    \x93\x00\x10\x00";
-
-// Two units, and whether every step so far gave and left the same in both.
-struct Units {
-    in_place: Unit,
-    by_value: Unit,
-    same: bool,
-}
-
-fn twice(unit: Unit) -> Units {
-    Units {
-        in_place: unit,
-        by_value: unit,
-        same: true,
-    }
-}
-
-// Both units stepped with the cycle of record n, and the answer printed.
-fn stepped(s: Units, n: usize, c: Cycle) -> Units {
-    let u = step_by_lending(s.in_place, c);
-    let v = step(s.by_value, c);
-    let answer = u.answer;
-    print::answer(n, answer);
-    let same = s.same & compare::same(u, v);
-    let in_place = u.unit;
-    let by_value = v.unit;
-    Units {
-        in_place,
-        by_value,
-        same,
-    }
-}
-
-// What the reader shows and gives at number n, printed.
-fn told(trace: &[u8], n: usize) -> Found {
+// What the reader shows and says at a number, and the number that it is at then.
+fn asked(trace: &[u8], n: usize) {
     let part = shown_at(trace, n);
+    let shown = part.len();
     let found = read_at(trace, n);
     let step = found.step;
-    match step {
-        Step::Record(c) => print::record(n, part, c),
-        Step::No(no) => print::refusal(n, part, no, found.next),
+    let mut no = 0;
+    if let Step::No(number) = step {
+        no = number;
     }
-    found
+    print::reader(n, shown, no, found.next);
 }
 
-// A whole trace from power-on, by the reader's own number, and the reader asked twice at its end.
-fn whole(name: &[u8], trace: &[u8]) {
-    print::line(name);
-    let mut s = twice(Unit::power_on());
+// Packs the answer to record n in its place, as the run does.
+fn keep(answers: &mut [u8], n: usize, a: Answer) {
+    if n < answers.len() / pack::BYTES {
+        pack::put(answers, n * pack::BYTES, a);
+    }
+}
+
+// The unit after what the reader found at number n.
+fn stepped(u: Unit, found: Found, n: usize, answers: &mut [u8]) -> Unit {
+    let step = found.step;
+    if let Step::Record(c) = step {
+        let s = step_by_lending(u, c);
+        let a = s.answer;
+        keep(answers, n, a);
+        return s.unit;
+    }
+    u
+}
+
+// The answers to every record that the reader gives, by its own number, at which it is asked again. The result is its number at the end.
+fn through(trace: &[u8], answers: &mut [u8]) -> usize {
+    let mut u = Unit::power_on();
     let mut n = 0;
-    let records = count(trace);
-    for _ in 0..=records {
-        let found = told(trace, n);
-        let step = found.step;
-        if let Step::Record(c) = step {
-            s = stepped(s, n, c);
-        }
+    for _ in 0..count(trace) {
+        let found = read_at(trace, n);
+        u = stepped(u, found, n, answers);
         n = found.next;
     }
-    told(trace, n);
-    print::agreement(s.same);
+    n
 }
 
-// Refusals 1 and 2, which no record of a trace can meet: a status above 15, and a unit with SAR above 63.
-fn out_of_numbers() {
-    print::line(b"out of their numbers");
-    let unit = Unit::power_on();
-    let c = Cycle {
-        status: 16,
-        read: true,
-        normal: false,
-        dma: false,
-        select: false,
-        segment: 0,
-        offset: 0,
-        byte: 0,
-        reset: false,
-    };
-    let s = stepped(twice(unit), 0, c);
-    print::agreement(s.same);
-    let table = unit.table;
-    let registers = unit.registers.with_control(0, 64, 0);
-    let t = stepped(twice(Unit { table, registers }), 0, c);
-    print::agreement(t.same);
+// How many records have the same answer in both, up to the first that has not.
+fn agreeing(ours: &[u8], theirs: &[u8], records: usize) -> usize {
+    for i in 0..ours.len() {
+        if ours[i] != byte_at(theirs, i) {
+            return i / pack::BYTES;
+        }
+    }
+    records
 }
 
-// A trace that is refused at every number: at 0, and past every count.
-fn refused(name: &[u8], trace: &[u8]) {
-    print::line(name);
-    told(trace, 0);
-    told(trace, 20000);
+// Room for the answers of the longest trace.
+fn room() -> [u8; 96000] {
+    [0; 96000]
 }
 
-// Refusals 5 to 8, each from the sample with one thing changed; the earliest wins where two are met.
-fn bad_traces() {
-    let mut bad = SAMPLE;
-    refused(b"six bytes", &bad[..6]);
-    refused(b"a byte short", &bad[..42]);
-    bad[5] = 0x3E;
-    bad[6] = 0x81;
-    refused(b"count 16,001", &bad);
-    bad[4] = 2;
-    refused(b"version 2 as well", &bad);
-    bad[2] = b't';
-    refused(b"mark MBt as well", &bad);
+// A trace: its answers through the reader, and those of its run.
+fn whole(trace: &[u8]) {
+    let mut theirs = room();
+    let no = run::run(trace, &mut theirs);
+    let mut ours = room();
+    let end = through(trace, &mut ours);
+    let records = count(trace);
+    print::head(no, records);
+    print::records(&ours, records);
+    print::agreement(agreeing(&ours, &theirs, records), records);
+    asked(trace, end);
 }
 
+// A trace of one record with one byte changed, asked at its record and past every count.
+fn bad(place: usize, byte: u8) {
+    let mut trace = *b"MBT\x00\x01\x00\x01\x00\x00\x00\x00";
+    trace[place % 11] = byte;
+    asked(&trace, 0);
+    asked(&trace, 20000);
+}
+
+// The bad traces meet refusals 5 to 8; the last of them is good, and meets 9.
 fn main() {
-    let sample = SAMPLE;
-    whole(b"the sample", &sample);
-    let others = OTHERS;
-    whole(b"other records", &others);
-    out_of_numbers();
-    bad_traces();
+    let mut trace = io::large_buffer();
+    let n = io::read_full(STDIN_FILENO, &mut trace);
+    whole(&trace[..n]);
+    bad(2, b't');
+    bad(4, 2);
+    bad(5, 0x3F);
+    bad(6, 2);
+    bad(10, 0);
 }

@@ -1,120 +1,84 @@
 // A script, line by line, with the unit that its lines set and step.
 ghost use Prim.Native.Nat.{_≤_};
 ghost use lib.ListN.{length};
+use crate::parse;
+use crate::show;
+use lent::step_by_lending;
+use registers::flags;
+use rules::Change;
 use rules::Cycle;
 use rules::Descriptor;
-use rules::Registers;
 use rules::Unit;
-use script::parse;
-use script::parse::Line;
-use script::show;
-use unit::step;
+use unit::table;
 
-// The unit after a line, and where its text ends.
-pub struct Turn {
-    pub unit: Unit,
-    pub at: usize,
-}
-
-// A unit with these registers, and with a table of zeros.
-fn unit_with(registers: Registers) -> Unit {
+// A unit with the registers of a `U` line, and with a table of zeros.
+fn unit_with(said: [u8; 16]) -> Unit {
     let none = Descriptor {
         base: 0,
         limit: 0,
         attributes: 0,
     };
     let table = [none; 64];
+    let registers = parse::registers_in(said);
     Unit { table, registers }
 }
 
-// The descriptor at a number modulo 64.
-fn descriptor_at(u: Unit, place: u8) -> Descriptor {
+// The unit with the descriptor of a `D` line.
+fn with_descriptor(u: Unit, said: [u8; 16]) -> Unit {
+    let d = parse::descriptor_in(said);
     let t = u.table;
-    let i = (place % Unit::SEGMENTS) as usize;
-    t[i]
-}
-
-// The unit with another descriptor at a number modulo 64.
-fn with_descriptor(u: Unit, place: u8, d: Descriptor) -> Unit {
     let registers = u.registers;
-    let mut table = u.table;
-    let i = (place % Unit::SEGMENTS) as usize;
-    table[i] = d;
+    let table = table::changed(Change::Put(d), said[11], t);
     Unit { table, registers }
 }
 
 // Whose descriptor a cycle's line shows: that at SAR, as it stood, at status 3, else the segment's.
-fn shown_place(sar: u8, c: Cycle) -> u8 {
-    let command = c.status == Unit::COMMAND;
-    if command {
-        return sar % Unit::SEGMENTS;
-    }
-    c.segment % Unit::SEGMENTS
+fn shown_place(u: Unit, c: Cycle) -> u8 {
+    flags::pick(
+        c.status == Unit::COMMAND,
+        u.registers.control.sar,
+        c.segment,
+    )
+        % Unit::SEGMENTS
 }
 
-// One cycle, and its line of text.
-fn stepped(u: Unit, c: Cycle, out: &mut [u8], at: usize) -> Turn {
-    let place = shown_place(u.registers.control.sar, c);
-    let s = step::step(u, c);
-    let next = s.unit;
-    let answer = s.answer;
-    let registers = next.registers;
-    let d = descriptor_at(next, place);
-    let end = show::put_cycle(out, at, answer, registers, place, d);
-    Turn {
-        unit: next,
-        at: end,
-    }
+// The unit after the cycle of a `C` line, stepped in place, which is shown.
+fn stepped(u: Unit, said: [u8; 16]) -> Unit {
+    let c = parse::cycle_in(said);
+    let place = shown_place(u, c);
+    let s = step_by_lending(u, c);
+    show::cycle(s, place);
+    s.unit
 }
 
-// A line as it is.
-fn echoed(line: &[u8], out: &mut [u8], at: usize) -> usize {
-    let mut p = at;
-    let mut i = 0;
-    while i < line.len() {
-        p = show::put(out, p, line[i]);
-        i += 1;
-    }
-    show::put(out, p, b'\n')
-}
-
-// The answer to a line of no form.
-fn unknown(out: &mut [u8], at: usize) -> usize {
-    let p = show::put(out, at, b'?');
-    show::put(out, p, b'\n')
-}
-
-// One line.
-fn obeyed(u: Unit, line: &[u8], out: &mut [u8], at: usize) -> Turn {
-    let asked = parse::line_of(line);
-    match asked {
-        Line::Echo => Turn {
-            unit: u,
-            at: echoed(line, out, at),
-        },
-        Line::Registers => Turn {
-            unit: unit_with(parse::registers_in(line)),
-            at,
-        },
-        Line::Descriptor => Turn {
-            unit: with_descriptor(u, parse::place_in(line), parse::descriptor_in(line)),
-            at,
-        },
-        Line::Cycle => stepped(u, parse::cycle_in(line), out, at),
-        Line::Unknown => Turn {
-            unit: u,
-            at: unknown(out, at),
-        },
+// The unit after a line.
+fn obeyed(u: Unit, said: [u8; 16]) -> Unit {
+    let letter = said[0];
+    match letter {
+        b'U' => unit_with(said),
+        b'D' => with_descriptor(u, said),
+        b'C' => stepped(u, said),
+        _ => u,
     }
 }
 
-// The length of the first line: up to its line feed, or all where there is none.
-fn line_length(rest: &[u8]) -> usize
-    ensures { λ r. ⌜ r ≤ length (now (rest .entry)) ⌝ }
+// What a line says; one that asks for nothing is answered at once.
+fn told(line: &[u8]) -> [u8; 16] {
+    let said = parse::said(line);
+    if said[0] == 0 {
+        show::other(line);
+    }
+    said
+}
+
+// Where the line from an index on ends: at its line feed, or where the script does.
+fn line_end(script: &[u8], from: usize) -> usize
+    requires { ⌜ from ≤ length (now script) ⌝ }
+    ensures { λ r. ⌜ (from ≤ r) × (r ≤ length (now (script .entry))) ⌝ }
 {
-    let mut i = 0;
-    while i < rest.len() {
-        if rest[i] == b'\n' {
+    let mut i = from;
+    while i < script.len() {
+        if script[i] == b'\n' {
             return i;
         }
         i += 1;
@@ -122,18 +86,13 @@ fn line_length(rest: &[u8]) -> usize
     i
 }
 
-// Every line of the script; the answer is the length of the text.
-pub fn replay(script: &[u8], out: &mut [u8]) -> usize {
+// Every line of the script.
+pub fn replay(script: &[u8]) {
     let mut unit = Unit::power_on();
-    let mut at = 0;
     let mut from = 0;
     while from < script.len() {
-        let end = from + line_length(&script[from..]);
-        let turn = obeyed(unit, &script[from..end], out, at);
-        let next = turn.unit;
-        unit = next;
-        at = turn.at;
+        let end = line_end(script, from);
+        unit = obeyed(unit, told(&script[from..end]));
         from = end + 1;
     }
-    at
 }

@@ -1,5 +1,4 @@
--- `replay::run::replay` is safe and ends: each turn passes a line, and the buffer keeps its length. Assumes nothing.
-use mathlib.Core.Path.{_≡_}
+-- `replay::run::replay` is safe and ends: each turn passes a line. Assumes nothing.
 use Prim.Native.Nat.{_-_}
 use borrow.Author.Needs.{needs}
 use lib.ListN.{length}
@@ -7,10 +6,10 @@ use Rattle.replay.proofs.run.replay.Statement.{statement}
 use Rattle.replay.proofs.run.replay.Tie as tie
 
 abbrev Inv-loop : tie.InvT-loop
-Inv-loop script out₀ unit₀ at₀ from₀ out unit at from = length out ≡ length out₀
+Inv-loop script unit₀ from₀ unit from = Unit {0}
 
 abbrev μ-loop : tie.MeasureT-loop
-μ-loop script out₀ unit₀ at₀ from₀ out unit at from = length script - from
+μ-loop script unit₀ from₀ unit from = length script - from
 
 pub replay-spec : {M : Type 1} → statement M
 replay-spec =
@@ -18,18 +17,14 @@ replay-spec =
     (tie.spec
     Inv-loop
     μ-loop
-    (λ c κs. search needs)
-    (λ c. search needs)
-    (λ c. search needs)
     (λ c. search needs)
     (λ c. search needs)
     (λ c κs. search needs)
     (λ c. search needs)
     (λ c. search needs)
     (λ c. search needs)
-    (λ c. search needs)
     (λ c κs. search needs)
-    (λ c. search needs)
+    (λ c κs. search needs)
     (λ c. search needs)
     (λ c. search needs)
     (λ c. search needs)
