@@ -6,4 +6,4 @@ use Rattle.fetch.proofs.begun.Tie as tie
 
 pub begun-spec : {M : Type 1} → statement M
 unfolding begun
-begun-spec = tie.close (tie.spec (λ c κs. search needs) (λ c. cc))
+begun-spec = tie.close (tie.spec (λ c κs. search needs) (λ c. simp (← c .with-notes .ensures)))

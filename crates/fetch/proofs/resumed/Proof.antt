@@ -6,4 +6,4 @@ use Rattle.fetch.proofs.resumed.Tie as tie
 
 pub resumed-spec : {M : Type 1} → statement M
 unfolding resumed
-resumed-spec = tie.close (tie.spec (λ c κs. search needs) (λ c. cc))
+resumed-spec = tie.close (tie.spec (λ c κs. search needs) (λ c. simp (← c .with-notes .ensures)))

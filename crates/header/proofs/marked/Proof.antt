@@ -15,4 +15,8 @@ marked-spec =
     (λ c. search needs)
     (λ c κs. search needs)
     (λ c. search needs)
-    (λ c. cc))
+    (λ c. simp (
+      ← c .before .before .byte-at .ensures,
+      ← c .before .byte-at2 .ensures,
+      ← c .byte-at3 .ensures,
+    )))

@@ -6,4 +6,9 @@ use Rattle.outcomes.proofs.aborted.Tie as tie
 
 pub aborted-spec : {M : Type 1} → statement M
 unfolding aborted
-aborted-spec = tie.close (tie.spec (λ c κs. search needs) (λ c κs. search needs) (λ c. cc))
+aborted-spec =
+    tie.close
+    (tie.spec
+    (λ c κs. search needs)
+    (λ c κs. search needs)
+    (λ c. simp (← c .before .seen .ensures, ← c .resumed .ensures)))

@@ -6,4 +6,4 @@ use Rattle.outcomes.proofs.untranslated.Tie as tie
 
 pub untranslated-spec : {M : Type 1} → statement M
 unfolding untranslated
-untranslated-spec = tie.close (tie.spec (λ c κs. search needs) (λ c. cc))
+untranslated-spec = tie.close (tie.spec (λ c κs. search needs) (λ c. simp (← c .seen .ensures)))

@@ -6,4 +6,9 @@ use Rattle.touch.proofs.noted.Tie as tie
 
 pub noted-spec : {M : Type 1} → statement M
 unfolding noted
-noted-spec = tie.close (tie.spec (λ c κs. search needs) (λ c κs. search needs) (λ c. cc))
+noted-spec =
+    tie.close
+    (tie.spec
+    (λ c κs. search needs)
+    (λ c κs. search needs)
+    (λ c. simp (← c .before .before .pick .ensures, ← c .before .pick2 .ensures)))

@@ -6,4 +6,4 @@ use Rattle.touch.proofs.touched.Tie as tie
 
 pub touched-spec : {M : Type 1} → statement M
 unfolding touched
-touched-spec = tie.close (tie.spec (λ c κs. search needs) (λ c. cc))
+touched-spec = tie.close (tie.spec (λ c κs. search needs) (λ c. simp (← c .flag-if .ensures)))

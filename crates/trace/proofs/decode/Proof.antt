@@ -13,4 +13,9 @@ decode-spec =
     (λ c κs. search needs)
     (λ c κs. search needs)
     (λ c κs. search needs)
-    (λ c. cc))
+    (λ c. simp (
+      ← c .before .before .before .byte-at .ensures,
+      ← c .before .before .byte-at2 .ensures,
+      ← c .before .byte-at3 .ensures,
+      ← c .byte-at4 .ensures,
+    )))

@@ -6,4 +6,4 @@ use Rattle.translation.proofs.block_of.Tie as tie
 
 pub block-of-spec : {M : Type 1} → statement M
 unfolding blockOf
-block-of-spec = tie.close (tie.spec (λ c κs. search needs) (λ c. cc))
+block-of-spec = tie.close (tie.spec (λ c κs. search needs) (λ c. simp (← c .wrapping-add-u16 .ensures)))

@@ -6,4 +6,9 @@ use Rattle.codes.proofs.execute.commanded.Tie as tie
 
 pub commanded-spec : {M : Type 1} → statement M
 unfolding commanded
-commanded-spec = tie.close (tie.spec (λ c κs. search needs) (λ c κs. search needs) (λ c. cc))
+commanded-spec =
+    tie.close
+    (tie.spec
+    (λ c κs. search needs)
+    (λ c κs. search needs)
+    (λ c. simp (← c .before .command .ensures, ← c .executed .ensures)))

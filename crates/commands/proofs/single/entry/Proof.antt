@@ -15,4 +15,11 @@ entry-spec =
     (λ c κs. search needs)
     (λ c κs. search needs)
     (λ c κs. search needs)
-    (λ c. cc))
+    (λ c. simp (
+      ← c .before .before .before .before .before .index-of .ensures,
+      ← c .before .before .before .before .moved .ensures,
+      ← c .before .before .before .byte-of .ensures,
+      ← c .before .before .with-control .ensures,
+      ← c .before .written-by .ensures,
+      ← c .given .ensures,
+    )))

@@ -6,4 +6,4 @@ use Rattle.commands.proofs.single.given.Tie as tie
 
 pub given-spec : {M : Type 1} → statement M
 unfolding given
-given-spec = tie.close (tie.spec (λ c κs. search needs) (λ c. cc))
+given-spec = tie.close (tie.spec (λ c κs. search needs) (λ c. simp (← c .flag-if .ensures)))

@@ -6,4 +6,14 @@ use Rattle.commands.proofs.single.programmed.Tie as tie
 
 pub programmed-spec : {M : Type 1} → statement M
 unfolding programmed
-programmed-spec = tie.close (tie.spec (λ c κs. search needs) (λ c κs. search needs) (λ c κs. search needs) (λ c. cc))
+programmed-spec =
+    tie.close
+    (tie.spec
+    (λ c κs. search needs)
+    (λ c κs. search needs)
+    (λ c κs. search needs)
+    (λ c. simp (
+      ← c .before .before .kept .ensures,
+      ← c .before .with-control .ensures,
+      ← c .given .ensures,
+    )))

@@ -6,4 +6,4 @@ use Rattle.commands.proofs.single.refused.Tie as tie
 
 pub refused-spec : {M : Type 1} → statement M
 unfolding refused
-refused-spec = tie.close (tie.spec (λ c κs. search needs) (λ c. cc))
+refused-spec = tie.close (tie.spec (λ c κs. search needs) (λ c. simp (← c .plain .ensures)))

@@ -6,4 +6,9 @@ use Rattle.descriptors.proofs.entry.moved.Tie as tie
 
 pub moved-spec : {M : Type 1} → statement M
 unfolding moved
-moved-spec = tie.close (tie.spec (λ c κs. search needs) (λ c κs. search needs) (λ c. cc))
+moved-spec =
+    tie.close
+    (tie.spec
+    (λ c κs. search needs)
+    (λ c κs. search needs)
+    (λ c. simp (← c .before .before .next-counter .ensures, ← c .next-segment .ensures)))

@@ -6,4 +6,9 @@ use Rattle.dispatch.proofs.status.acknowledged.Tie as tie
 
 pub acknowledged-spec : {M : Type 1} → statement M
 unfolding acknowledged
-acknowledged-spec = tie.close (tie.spec (λ c κs. search needs) (λ c κs. search needs) (λ c. cc))
+acknowledged-spec =
+    tie.close
+    (tie.spec
+    (λ c κs. search needs)
+    (λ c κs. search needs)
+    (λ c. simp (← c .before .acknowledge-byte .ensures, ← c .quieted .ensures)))

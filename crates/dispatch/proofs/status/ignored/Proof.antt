@@ -6,4 +6,4 @@ use Rattle.dispatch.proofs.status.ignored.Tie as tie
 
 pub ignored-spec : {M : Type 1} → statement M
 unfolding ignored
-ignored-spec = tie.close (tie.spec (λ c κs. search needs) (λ c. cc))
+ignored-spec = tie.close (tie.spec (λ c κs. search needs) (λ c. simp (← c .plain .ensures)))

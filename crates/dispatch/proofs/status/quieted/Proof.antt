@@ -6,4 +6,4 @@ use Rattle.dispatch.proofs.status.quieted.Tie as tie
 
 pub quieted-spec : {M : Type 1} → statement M
 unfolding quieted
-quieted-spec = tie.close (tie.spec (λ c κs. search needs) (λ c. cc))
+quieted-spec = tie.close (tie.spec (λ c κs. search needs) (λ c. simp (← c .with-notes .ensures)))

@@ -6,4 +6,14 @@ use Rattle.dispatch.proofs.status.reset_by.Tie as tie
 
 pub reset-by-spec : {M : Type 1} → statement M
 unfolding resetBy
-reset-by-spec = tie.close (tie.spec (λ c κs. search needs) (λ c κs. search needs) (λ c κs. search needs) (λ c. cc))
+reset-by-spec =
+    tie.close
+    (tie.spec
+    (λ c κs. search needs)
+    (λ c κs. search needs)
+    (λ c κs. search needs)
+    (λ c. simp (
+      ← c .before .before .flag-if .ensures,
+      ← c .before .restarted .ensures,
+      ← c .plain .ensures,
+    )))

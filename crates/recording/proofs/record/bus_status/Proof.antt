@@ -6,4 +6,9 @@ use Rattle.recording.proofs.record.bus_status.Tie as tie
 
 pub bus-status-spec : {M : Type 1} → statement M
 unfolding busStatus
-bus-status-spec = tie.close (tie.spec (λ c κs. search needs) (λ c κs. search needs) (λ c. cc))
+bus-status-spec =
+    tie.close
+    (tie.spec
+    (λ c κs. search needs)
+    (λ c κs. search needs)
+    (λ c. simp (← c .before .flag-if .ensures, ← c .flag-if2 .ensures)))

@@ -15,4 +15,8 @@ step-spec =
     (λ c. search needs)
     (λ c κs. search needs)
     (λ c κs. search needs)
-    (λ c. cc))
+    (λ c. simp (
+      ← c .before .before .before .before .before .place-of .ensures,
+      ← c .before .before .before .act .ensures,
+      ← c .changed .ensures,
+    )))
