@@ -1,20 +1,10 @@
 // The C interface: a unit in bytes that the caller keeps, stepped cycle by cycle, and the text of a whole trace. It keeps no state, and
 // no call asks anything of its caller. `include/distantarm.h` declares these functions for C.
-ghost use mathlib.Core.Path.{_≡_};
-ghost use mathlib.Core.Bool.{false};
-ghost use Prim.Native.Nat.{_≤_};
-ghost use lib.ListN.{length};
-ghost use lib.Seq.{sets};
-ghost use Rattle.rules.specs.Kinds.{numberOf};
-ghost use Rattle.pack.specs.Packed.{packed};
 ghost use Rattle.listing.specs.Listed.{Listed};
-ghost use Rattle.distantarm.specs.Interface.{PoweredOn, Cycled, Called, given};
-use commands::single;
-use rules::Answer;
+ghost use Rattle.distantarm.specs.Interface.{PoweredOn, Called, given};
 use rules::Cycle;
 use rules::Unit;
 use run::NO_ROOM;
-use unit::step::step;
 
 // The unit at power-on: 0, and its bytes at the start of the buffer. A buffer that is too short gives NO_ROOM and is left as it was.
 #[no_mangle]
@@ -28,37 +18,6 @@ pub extern "C" fn distantarm_power_on(unit: &mut [u8]) -> u8
     let u = Unit::power_on();
     snapshot::put_unit(unit, u);
     0
-}
-
-// An answer packed at the start of the buffer, and the number of its refusal, or 0.
-fn show(answer: &mut [u8], a: Answer) -> u8
-    requires { ⌜ 6 ≤ length (now answer) ⌝ }
-    ensures { λ r. ⌜ (r ≡ numberOf (a .kind)) × (now (answer .exit) ≡ sets (now (answer .entry)) 0 (packed a)) ⌝ }
-{
-    pack::put(answer, 0, a);
-    let kind = a.kind;
-    kinds::number(kind)
-}
-
-// One cycle of the unit in the bytes, both buffers having room.
-fn turn(unit: &mut [u8], answer: &mut [u8], c: Cycle) -> u8
-    requires { ⌜ (266 ≤ length (now unit)) × (6 ≤ length (now answer)) ⌝ }
-    ensures { λ r. ⌜ Cycled false c (now (unit .entry)) (now (answer .entry)) (now (unit .exit)) (now (answer .exit)) r ⌝ }
-{
-    let notes = unit[snapshot::NOTES];
-    let strange = snapshot::LAST_NOTES < notes;
-    if strange {
-        let r = snapshot::registers_in(unit);
-        let p = single::refused(2, r);
-        let a = p.answer;
-        return show(answer, a);
-    }
-    let u = snapshot::unit_in(unit);
-    let s = step(u, c);
-    let after = s.unit;
-    let a = s.answer;
-    snapshot::put_unit(unit, after);
-    show(answer, a)
 }
 
 // One cycle: the packed answer in the one buffer, the unit after the cycle in the other, and 0 or the number of the refusal. Where a
@@ -95,7 +54,7 @@ pub extern "C" fn distantarm_cycle(
         byte,
         reset,
     };
-    turn(unit, answer, c)
+    turn::turn(unit, answer, c)
 }
 
 // The text of a trace, as mmurun prints it, and its length. A buffer that is shorter than listing::ROOM is left as it was, and the answer

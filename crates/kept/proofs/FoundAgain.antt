@@ -17,7 +17,7 @@ use Rattle.rules.specs.declared.Unit.{Unit}
 use Rattle.snapshot.specs.Snapshot.{descriptorIn, tableIn, notesIn, registersIn, unitIn}
 use Rattle.snapshot.specs.Snapshot.{descriptorBytes, tableBytes, notesByte, registerBytes, bytesOf}
 use Rattle.snapshot.proofs.Tables.{bytes-length}
-use Rattle.distantarm.specs.Interface.{strange}
+use Rattle.turn.specs.Turned.{strange}
 use Rattle.kept.specs.Kept.{FoundAgain}
 
 -- ---- the notes: found again, and never strange

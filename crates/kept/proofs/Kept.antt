@@ -17,7 +17,7 @@ use Rattle.rules.specs.declared.Unit.{Unit}
 use Rattle.runs.proofs.Refusal.{refusal-leaves}
 use Rattle.runs.proofs.Undamaged.{undamaged-after}
 use Rattle.snapshot.specs.Snapshot.{unitIn, bytesOf}
-use Rattle.distantarm.specs.Interface.{strange, answerBy, answerOf, bytesBy, bytesAfter}
+use Rattle.turn.specs.Turned.{strange, answerBy, answerOf, bytesBy, bytesAfter}
 use Rattle.kept.specs.Kept.{Bytes, RefusalKeeps, calls, CallsAreTheRun}
 use Rattle.kept.proofs.PutBack.{put-back}
 use Rattle.kept.proofs.FoundAgain.{found-again, never-strange}

@@ -11,7 +11,7 @@ use Rattle.rules.specs.declared.Kind.the-variants.{Refused}
 use Rattle.rules.specs.declared.Unit.{Unit}
 use Rattle.runs.specs.Undamaged.{Undamaged}
 use Rattle.snapshot.specs.Snapshot.{unitIn, bytesOf}
-use Rattle.distantarm.specs.Interface.{answerOf, bytesAfter}
+use Rattle.turn.specs.Turned.{answerOf, bytesAfter}
 
 -- numbers that are bytes, as those of every buffer are
 abbrev pub Bytes : List ℕ → Type 0

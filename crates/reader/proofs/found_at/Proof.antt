@@ -30,7 +30,7 @@ returns c =
     let given : eqb (recordRefusalOf t n) 0 ≡ true =
     ap (λ (k : ℕ). eqb k 0) (sym (c .before .before .before .record-refusal .ensures)) ∙ c .before .before .if1 .taken in
     let cycle : c .decode .result ≡ cycleOf (partOf t n) = c .decode .ensures ∙ ap cycleOf (c .before .part .ensures) in
-    simp given (cc)
+    simp (given, cycle)
 
 returns-2 : tie.Need-returns-2
 unfolding stepOf afterOf
@@ -40,7 +40,7 @@ returns-2 c =
     let n = start .n in
     let no = c .before .record-refusal .ensures in
     let given : eqb (recordRefusalOf t n) 0 ≡ false = ap (λ (k : ℕ). eqb k 0) (sym no) ∙ c .if1 .left in
-    simp given (cc)
+    simp (given, no)
 
 pub found-at-spec : {M : Type 1} → statement M
 found-at-spec =

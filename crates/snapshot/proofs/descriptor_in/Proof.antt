@@ -17,4 +17,4 @@ descriptor-in-spec =
     (λ c. search needs)
     (λ c. search needs)
     (λ c. search needs)
-    (λ c. cc))
+    (λ c. simp (← c .before .before .pair .ensures)))

@@ -13,4 +13,9 @@ notes-byte-spec =
     (λ c κs. search needs)
     (λ c κs. search needs)
     (λ c κs. search needs)
-    (λ c. cc))
+    (λ c. simp (
+      ← c .before .before .before .flag-if .ensures,
+      ← c .before .before .flag-if2 .ensures,
+      ← c .before .flag-if3 .ensures,
+      ← c .flag-if4 .ensures,
+    )))

@@ -20,4 +20,4 @@ registers-in-spec =
     (λ c. search needs)
     (λ c. search needs)
     (λ c κs. search needs)
-    (λ c. cc))
+    (λ c. simp (← c .notes-in .ensures)))

@@ -6,4 +6,9 @@ use Rattle.snapshot.proofs.unit_in.Tie as tie
 
 pub unit-in-spec : {M : Type 1} → statement M
 unfolding unitIn
-unit-in-spec = tie.close (tie.spec (λ c κs. search needs) (λ c κs. search needs) (λ c. cc))
+unit-in-spec =
+    tie.close
+    (tie.spec
+    (λ c κs. search needs)
+    (λ c κs. search needs)
+    (λ c. simp (← c .before .table-in .ensures, ← c .registers-in .ensures)))

@@ -1,4 +1,4 @@
--- `distantarm::turn` meets its contract: the answer of a damaged unit where the notes are strange, else one step. Assumes nothing.
+-- `turn::turn` meets its contract: the answer of a damaged unit where the notes are strange, else one step. Assumes nothing.
 use mathlib.Core.Path.{refl, ap, _∙_}
 use mathlib.Core.Bool.{true, false}
 use lib.Seq.{sets}
@@ -9,10 +9,10 @@ use Rattle.rules.specs.declared.Registers.{Registers}
 use Rattle.rules.specs.declared.Stepped.{Stepped}
 use Rattle.rules.specs.declared.Unit.{Unit}
 use Rattle.snapshot.specs.Snapshot.{bytesOf}
-use Rattle.distantarm.proofs.Ends.{turned}
+use Rattle.turn.proofs.Ends.{turned}
 use borrow.Author.Needs.{needs}
-use Rattle.distantarm.proofs.turn.Statement.{statement}
-use Rattle.distantarm.proofs.turn.Tie as tie
+use Rattle.turn.proofs.turn.Statement.{statement}
+use Rattle.turn.proofs.turn.Tie as tie
 
 returns : tie.Need-returns
 returns c =

@@ -1,0 +1,44 @@
+// One cycle of a unit in bytes, for buffers that have room.
+ghost use mathlib.Core.Path.{_≡_};
+ghost use mathlib.Core.Bool.{false};
+ghost use Prim.Native.Nat.{_≤_};
+ghost use lib.ListN.{length};
+ghost use lib.Seq.{sets};
+ghost use Rattle.rules.specs.Kinds.{numberOf};
+ghost use Rattle.pack.specs.Packed.{packed};
+ghost use Rattle.turn.specs.Turned.{Cycled};
+use commands::single;
+use rules::Answer;
+use rules::Cycle;
+use unit::step::step;
+
+// An answer packed at the start of the buffer, and the number of its refusal, or 0.
+fn show(answer: &mut [u8], a: Answer) -> u8
+    requires { ⌜ 6 ≤ length (now answer) ⌝ }
+    ensures { λ r. ⌜ (r ≡ numberOf (a .kind)) × (now (answer .exit) ≡ sets (now (answer .entry)) 0 (packed a)) ⌝ }
+{
+    pack::put(answer, 0, a);
+    let kind = a.kind;
+    kinds::number(kind)
+}
+
+// One cycle of the unit in the bytes, both buffers having room.
+pub fn turn(unit: &mut [u8], answer: &mut [u8], c: Cycle) -> u8
+    requires { ⌜ (266 ≤ length (now unit)) × (6 ≤ length (now answer)) ⌝ }
+    ensures { λ r. ⌜ Cycled false c (now (unit .entry)) (now (answer .entry)) (now (unit .exit)) (now (answer .exit)) r ⌝ }
+{
+    let notes = unit[snapshot::NOTES];
+    let strange = snapshot::LAST_NOTES < notes;
+    if strange {
+        let r = snapshot::registers_in(unit);
+        let p = single::refused(2, r);
+        let a = p.answer;
+        return show(answer, a);
+    }
+    let u = snapshot::unit_in(unit);
+    let s = step(u, c);
+    let after = s.unit;
+    let a = s.answer;
+    snapshot::put_unit(unit, after);
+    show(answer, a)
+}
