@@ -3,7 +3,7 @@ use mathlib.Core.List.{List, [], _∷_, _++_}
 use Prim.Native.Nat.{ℕ, zero, suc, _+_}
 use lib.ListN.{getD, take, drop}
 use Rattle.rules.specs.Flags.{has}
-use Rattle.lines.specs.Fields.{space, opening, addressText, signals}
+use Rattle.fields.specs.Fields.{space, opening, addressText, signals}
 
 -- the line of six bytes
 unfoldable pub lineOf : ℕ → (six : List ℕ) → List ℕ

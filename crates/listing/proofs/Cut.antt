@@ -12,7 +12,7 @@ use lib.Seq.{length-take-le, getD-take, take-all}
 use borrow.Author.Tests.{ltb-true, ltb-false, le-ltb, ne-eqb}
 use Rattle.header.specs.Header.{marked, pair, versionOf, countOf, refusalBy, refusalOf}
 use Rattle.header.proofs.Taken.{taken}
-use Rattle.lines.specs.Fields.{refusalText}
+use Rattle.fields.specs.Fields.{refusalText}
 use Rattle.listing.specs.Text.{printed}
 use Rattle.listing.proofs.Whole.{printed-refused}
 

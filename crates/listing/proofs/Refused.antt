@@ -3,7 +3,7 @@
 use mathlib.Core.Path.{_≡_, refl}
 use mathlib.Core.List.{[], _∷_, _++_}
 use Prim.Native.Nat.{ℕ}
-use Rattle.lines.specs.Fields.{opening, bitText, addressText, byteText, signals}
+use Rattle.fields.specs.Fields.{opening, bitText, addressText, byteText, signals}
 use Rattle.rules.specs.Refusals.{plain, refused}
 use Rattle.rules.specs.declared.Registers.{Registers}
 use Rattle.listing.specs.Text.{line}

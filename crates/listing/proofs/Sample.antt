@@ -16,7 +16,7 @@ use Rattle.rules.specs.Status.{resetBy, acknowledgeByte, quieted, acknowledged,
 use Rattle.rules.specs.Step.{decided, placeOf, changed, decision, after}
 use Rattle.rules.specs.Translation.{wayOf, blockOf, linesOf}
 use Rattle.header.specs.Header.{marked, pair, refusalOf}
-use Rattle.lines.specs.Fields.{kindText, opening, addressText, byteText, signals, headText, refusalText}
+use Rattle.fields.specs.Fields.{kindText, opening, addressText, byteText, signals, headText, refusalText}
 use Rattle.listing.specs.Text.{line, printed}
 use Rattle.text.specs.Digits.{decimal, digit}
 use Rattle.trace.specs.Trace.{givenOf, recordRefusalOf, partOf, cycleOf, cyclesTo}

@@ -10,7 +10,7 @@ use lib.ListN.{length, take, drop}
 use lib.Seq.{sets, sets-eq, length-sets, length-take-le, take-at, drop-at}
 use borrow.Author.Tests.{lt-ltb, le-ltb, eq-eqb, ne-eqb}
 use Rattle.header.specs.Header.{countOf, refusalOf}
-use Rattle.lines.specs.Fields.{headText, refusalText}
+use Rattle.fields.specs.Fields.{headText, refusalText}
 use Rattle.lines.specs.Lines.{linesOf}
 use Rattle.pack.specs.Packed.{bytesOf}
 use Rattle.rules.specs.PowerOn.{powerOn}

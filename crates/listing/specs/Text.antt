@@ -4,7 +4,7 @@ use mathlib.Core.List.{List, [], _∷_, _++_}
 use Prim.Native.Nat.{ℕ, _+_, _/_, _%_}
 use lib.Dec.{eqb}
 use Rattle.header.specs.Header.{countOf, refusalOf}
-use Rattle.lines.specs.Fields.{space, opening, addressText, signals, headText, refusalText}
+use Rattle.fields.specs.Fields.{space, opening, addressText, signals, headText, refusalText}
 use Rattle.rules.specs.Kinds.{letterOf, numberOf}
 use Rattle.rules.specs.PowerOn.{powerOn}
 use Rattle.rules.specs.Runs.{answers}

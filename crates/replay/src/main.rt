@@ -1,7 +1,5 @@
 // Reads a script from standard input, and writes what a unit answers to each of its cycles, with the registers and one descriptor after it.
-mod parse;
 mod run;
-mod show;
 
 use libc::STDIN_FILENO;
 

@@ -1,14 +1,14 @@
 // A script, line by line, with the unit that its lines set and step.
 ghost use Prim.Native.Nat.{_≤_};
 ghost use lib.ListN.{length};
-use crate::parse;
-use crate::show;
 use lent::step_by_lending;
 use registers::flags;
 use rules::Change;
 use rules::Cycle;
 use rules::Descriptor;
 use rules::Unit;
+use script::parse;
+use script::show;
 use unit::table;
 
 // A unit with the registers of a `U` line, and with a table of zeros.

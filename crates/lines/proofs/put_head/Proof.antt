@@ -1,6 +1,6 @@
 -- `lines::put_head` meets its contract: what its calls put, one after the other. Assumes nothing.
 use native.Mathlib.Omega.{arith}
-use Rattle.lines.specs.Fields.{headText}
+use Rattle.fields.specs.Fields.{headText}
 use Rattle.stores.proofs.Laws.{then}
 use borrow.Author.Needs.{needs}
 use Rattle.lines.proofs.put_head.Statement.{statement}

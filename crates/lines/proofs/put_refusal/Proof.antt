@@ -1,6 +1,6 @@
 -- `lines::put_refusal` meets its contract: what its calls put, one after the other. Assumes nothing.
 use Rattle.stores.proofs.Laws.{then}
-use Rattle.lines.specs.Fields.{refusalText}
+use Rattle.fields.specs.Fields.{refusalText}
 use borrow.Author.Needs.{needs}
 use Rattle.lines.proofs.put_refusal.Statement.{statement}
 use Rattle.lines.proofs.put_refusal.Tie as tie

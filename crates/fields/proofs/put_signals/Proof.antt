@@ -1,9 +1,9 @@
--- `lines::put_signals` meets its contract: what its calls put, one after the other. Assumes nothing.
-use Rattle.lines.specs.Fields.{signals}
+-- `fields::put_signals` meets its contract: what its calls put, one after the other. Assumes nothing.
+use Rattle.fields.specs.Fields.{signals}
 use Rattle.stores.proofs.Laws.{then}
 use borrow.Author.Needs.{needs}
-use Rattle.lines.proofs.put_signals.Statement.{statement}
-use Rattle.lines.proofs.put_signals.Tie as tie
+use Rattle.fields.proofs.put_signals.Statement.{statement}
+use Rattle.fields.proofs.put_signals.Tie as tie
 
 returns : tie.Need-returns
 unfolding signals

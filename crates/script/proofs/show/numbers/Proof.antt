@@ -1,10 +1,10 @@
--- `replay::show::numbers` is safe and ends: its turns are counted. Assumes nothing.
+-- `script::show::numbers` is safe and ends: its turns are counted. Assumes nothing.
 use mathlib.Core.Path.{_≡_}
 use Prim.Native.Nat.{_≤_, _-_}
 use borrow.Author.Needs.{needs}
 use lib.ListN.{length}
-use Rattle.replay.proofs.show.numbers.Statement.{statement}
-use Rattle.replay.proofs.show.numbers.Tie as tie
+use Rattle.script.proofs.show.numbers.Statement.{statement}
+use Rattle.script.proofs.show.numbers.Tie as tie
 
 abbrev Inv-loop : tie.InvT-loop
 Inv-loop values line₀ i₀ line i = (i ≤ 49) × (length line ≡ 49)

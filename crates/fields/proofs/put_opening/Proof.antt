@@ -1,9 +1,9 @@
--- `lines::put_opening` meets its contract: what its calls put, one after the other. Assumes nothing.
+-- `fields::put_opening` meets its contract: what its calls put, one after the other. Assumes nothing.
 use Rattle.stores.proofs.Laws.{then}
-use Rattle.lines.specs.Fields.{opening}
+use Rattle.fields.specs.Fields.{opening}
 use borrow.Author.Needs.{needs}
-use Rattle.lines.proofs.put_opening.Statement.{statement}
-use Rattle.lines.proofs.put_opening.Tie as tie
+use Rattle.fields.proofs.put_opening.Statement.{statement}
+use Rattle.fields.proofs.put_opening.Tie as tie
 
 returns : tie.Need-returns
 unfolding opening

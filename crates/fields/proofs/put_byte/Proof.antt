@@ -1,8 +1,8 @@
--- `lines::put_byte` meets its contract: each answer follows from the tests on its way and what the calls ensure. Assumes nothing.
-use Rattle.lines.specs.Fields.{byteText}
+-- `fields::put_byte` meets its contract: each answer follows from the tests on its way and what the calls ensure. Assumes nothing.
+use Rattle.fields.specs.Fields.{byteText}
 use borrow.Author.Needs.{needs}
-use Rattle.lines.proofs.put_byte.Statement.{statement}
-use Rattle.lines.proofs.put_byte.Tie as tie
+use Rattle.fields.proofs.put_byte.Statement.{statement}
+use Rattle.fields.proofs.put_byte.Tie as tie
 
 pub put-byte-spec : {M : Type 1} → statement M
 unfolding byteText

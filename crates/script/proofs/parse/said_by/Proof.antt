@@ -1,10 +1,10 @@
--- `replay::parse::said_by` is safe and ends: its turns are counted, and a place is below 16. Assumes nothing.
+-- `script::parse::said_by` is safe and ends: its turns are counted, and a place is below 16. Assumes nothing.
 use mathlib.Core.Path.{_≡_}
 use Prim.Native.Nat.{_≤_, _-_}
 use borrow.Author.Needs.{needs}
 use lib.ListN.{length}
-use Rattle.replay.proofs.parse.said_by.Statement.{statement}
-use Rattle.replay.proofs.parse.said_by.Tie as tie
+use Rattle.script.proofs.parse.said_by.Statement.{statement}
+use Rattle.script.proofs.parse.said_by.Tie as tie
 
 abbrev Inv-loop : tie.InvT-loop
 Inv-loop line form said₀ good₀ i₀ said good i = (i ≤ 32) × (length said ≡ 16)

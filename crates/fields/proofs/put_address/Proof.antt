@@ -1,9 +1,9 @@
--- `lines::put_address` meets its contract: what its calls put, one after the other. Assumes nothing.
-use Rattle.lines.specs.Fields.{addressText}
+-- `fields::put_address` meets its contract: what its calls put, one after the other. Assumes nothing.
+use Rattle.fields.specs.Fields.{addressText}
 use Rattle.stores.proofs.Laws.{then}
 use borrow.Author.Needs.{needs}
-use Rattle.lines.proofs.put_address.Statement.{statement}
-use Rattle.lines.proofs.put_address.Tie as tie
+use Rattle.fields.proofs.put_address.Statement.{statement}
+use Rattle.fields.proofs.put_address.Tie as tie
 
 returns : tie.Need-returns
 unfolding addressText

@@ -1,9 +1,9 @@
--- `lines::put_kind` meets its contract: the letter alone, or the letter and then the number. Assumes nothing.
+-- `fields::put_kind` meets its contract: the letter alone, or the letter and then the number. Assumes nothing.
 use Rattle.stores.proofs.Laws.{then}
-use Rattle.lines.specs.Fields.{kindText}
+use Rattle.fields.specs.Fields.{kindText}
 use borrow.Author.Needs.{needs}
-use Rattle.lines.proofs.put_kind.Statement.{statement}
-use Rattle.lines.proofs.put_kind.Tie as tie
+use Rattle.fields.proofs.put_kind.Statement.{statement}
+use Rattle.fields.proofs.put_kind.Tie as tie
 
 returns : tie.Need-returns
 unfolding kindText
