@@ -1,9 +1,31 @@
--- `translation::block_of` meets its contract: what the calls ensure, put together. Assumes nothing.
+-- `translation::block_of` meets its contract: the bytes of the two sums, put together, are the sum modulo 65,536. Assumes nothing.
+use mathlib.Core.Path.{_≡_}
+use Prim.Native.Nat.{ℕ, _+_, _*_, _/_, _%_, _<_}
 use Rattle.rules.specs.Translation.{blockOf}
 use borrow.Author.Needs.{needs}
+use native.Mathlib.Omega.{arith}
 use Rattle.translation.proofs.block_of.Statement.{statement}
 use Rattle.translation.proofs.block_of.Tie as tie
 
-pub block-of-spec : {M : Type 1} → statement M
+-- Adding by bytes: carry and low sum are the sum of the low bytes, and the high sum is the high byte and the carry, in eight bits.
+added-by-bytes :
+    (base offset low carry high : ℕ) →
+    carry * 256 + low ≡ base % 256 + offset →
+    low < 256 →
+    high ≡ (base / 256 + carry) % 256 →
+    high * 256 + low ≡ blockOf base offset
 unfolding blockOf
-block-of-spec = tie.close (tie.spec (λ c κs. search needs) (λ c. simp (← c .wrapping-add-u16 .ensures)))
+added-by-bytes base offset low carry high nine eight wraps = omega arith
+
+pub block-of-spec : {M : Type 1} → statement M
+block-of-spec =
+    tie.close
+    (tie.spec
+    (λ c. omega arith)
+    (λ c. omega arith)
+    (λ c. omega arith)
+    (λ c κs. search needs)
+    (λ c. omega arith)
+    (λ c. omega arith)
+    (λ c. omega arith)
+    (λ c. added-by-bytes _ _ _ _ _ (omega arith) (omega arith) (c .wrapping-add-u8 .ensures)))

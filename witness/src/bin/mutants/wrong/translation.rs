@@ -108,6 +108,13 @@ wrong! { Translation:
             u16::from_be_bytes([high, low.wrapping_add(cycle.offset)])
         }
     }
+    WrongCarry "the carry into the high byte is that of the high byte and the offset" {
+        fn physical(unit: &Unit, cycle: &Cycle) -> u16 {
+            let [high, low] = unit.table[usize::from(cycle.entry())].base.to_be_bytes();
+            let (_, carry) = high.overflowing_add(cycle.offset);
+            u16::from_be_bytes([high.wrapping_add(u8::from(carry)), low.wrapping_add(cycle.offset)])
+        }
+    }
     Joins "base and offset are joined by or" {
         fn physical(unit: &Unit, cycle: &Cycle) -> u16 {
             unit.table[usize::from(cycle.entry())].base | u16::from(cycle.offset)
