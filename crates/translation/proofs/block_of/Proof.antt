@@ -9,13 +9,13 @@ use Rattle.translation.proofs.block_of.Tie as tie
 
 -- Adding by bytes: carry and low sum are the sum of the low bytes, and the high sum is the high byte and the carry, in eight bits.
 added-by-bytes :
-    (base offset low carry high : ℕ) →
-    carry * 256 + low ≡ base % 256 + offset →
-    low < 256 →
-    high ≡ (base / 256 + carry) % 256 →
-    high * 256 + low ≡ blockOf base offset
+    (base offset low-sum carry high-sum : ℕ) →
+    carry * 256 + low-sum ≡ base % 256 + offset →
+    low-sum < 256 →
+    high-sum ≡ (base / 256 + carry) % 256 →
+    high-sum * 256 + low-sum ≡ blockOf base offset
 unfolding blockOf
-added-by-bytes base offset low carry high nine eight wraps = omega arith
+added-by-bytes base offset low-sum carry high-sum nine eight wraps = omega arith
 
 pub block-of-spec : {M : Type 1} → statement M
 block-of-spec =
