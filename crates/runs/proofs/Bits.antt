@@ -1,15 +1,17 @@
 -- Laws of flags set and cleared.
 -- Assumes nothing.
-use mathlib.Core.Path.{_≡_, refl, ap}
+use mathlib.Core.Path.{_≡_, refl, sym, _∙_, ap}
 use mathlib.Core.Bool.{Bool, true, false, not, _&&_, _||_, false≢true}
-use Prim.Native.Nat.{ℕ, zero, suc, _/_, _%_, _^_, _<_}
+use Prim.Native.Nat.{ℕ, zero, suc, _+_, _-_, _*_, _/_, _%_, _^_, _<_, min, max}
 use native.Mathlib.Omega.{arith}
+use lib.Arith.{bin-ind}
 use lib.Bits.{and-shr, and-mod, bitAnd, bitOr, or-shr, or-mod, or-lt, and-mask, or-zero-l, or-add-and, and-le-r}
+use lib.Bits.{and-step, or-step, and-comm, or-comm, or-self}
 use lib.Dec.{eqb, lit<}
 use borrow.Author.Tests.{ne-eqb}
 use Rattle.runs.specs.Sequences.{_⇒_}
 use Rattle.rules.proofs.FlagLaws.{has-bit}
-use Rattle.rules.specs.Flags.{has, lacks, with, flagIf}
+use Rattle.rules.specs.Flags.{has, lacks, with, without, flagIf}
 use Rattle.rules.specs.Masks.{PRIMARY}
 
 -- a mask of one bit asks for that bit, so a law of two bits is one of flags
@@ -77,3 +79,36 @@ small-if false m h = lit< tt
 
 pub or-if : {x : ℕ} (t : Bool) (m : ℕ) → m < 64 → x < 64 → with x (flagIf t m) < 64
 or-if {x} t m h k = or-lt 6 x (flagIf t m) k (small-if t m h)
+
+-- Flags set and cleared twice
+
+-- an operation that goes digit by digit is associative where it is so on single digits, and where its first operand is zero
+module _ (op digit : ℕ → ℕ → ℕ) (step : (a b : ℕ) → op a b ≡ op (a / 2) (b / 2) * 2 + digit (a % 2) (b % 2)) where
+  associative : ((x y : ℕ) → x < 2 → y < 2 → digit x y < 2)
+      → ((x y z : ℕ) → x < 2 → y < 2 → z < 2 → digit (digit x y) z ≡ digit x (digit y z))
+      → ((b c : ℕ) → op (op 0 b) c ≡ op 0 (op b c))
+      → (a b c : ℕ) → op (op a b) c ≡ op a (op b c)
+  associative small one none =
+      bin-ind (λ (a : ℕ). (b c : ℕ) → op (op a b) c ≡ op a (op b c)) none λ n ih b c.
+      let hi : (a b : ℕ) → op a b / 2 ≡ op (a / 2) (b / 2) = λ a b. omega (arith, step a b, small (a % 2) (b % 2) (omega arith) (omega arith)) in
+      let lo : (a b : ℕ) → op a b % 2 ≡ digit (a % 2) (b % 2) = λ a b. omega (arith, step a b, small (a % 2) (b % 2) (omega arith) (omega arith)) in
+      rw (step (op n b) c, step n (op b c), hi n b, hi b c, lo n b, lo b c, ih (b / 2) (c / 2), one (n % 2) (b % 2) (c % 2) (omega arith) (omega arith) (omega arith))
+
+or-assoc : (a b c : ℕ) → bitOr (bitOr a b) c ≡ bitOr a (bitOr b c)
+or-assoc = associative bitOr max or-step (λ x y h k. omega arith) (λ x y z h k l. omega arith) (λ b c. refl)
+
+and-assoc : (a b c : ℕ) → bitAnd (bitAnd a b) c ≡ bitAnd a (bitAnd b c)
+and-assoc = associative bitAnd min and-step (λ x y h k. omega arith) (λ x y z h k l. omega arith) (λ b c. refl)
+
+pub with-twice : (a m : ℕ) → with (with a m) m ≡ with a m
+with-twice a m = or-assoc a m m ∙ ap (bitOr a) (or-self m)
+
+pub with-either : (a m n : ℕ) → with (with a m) n ≡ with (with a n) m
+with-either a m n = or-assoc a m n ∙ ap (bitOr a) (or-comm m n) ∙ sym (or-assoc a n m)
+
+-- where the flags of n are among those of m
+pub without-part : (v m n : ℕ) → bitAnd (255 - m) (255 - n) ≡ 255 - m → without (without v m) n ≡ without v m
+without-part v m n e = and-assoc v (255 - m) (255 - n) ∙ ap (bitAnd v) e
+
+pub without-either : (v m n : ℕ) → without (without v m) n ≡ without (without v n) m
+without-either v m n = and-assoc v (255 - m) (255 - n) ∙ ap (bitAnd v) (and-comm (255 - m) (255 - n)) ∙ sym (and-assoc v (255 - n) (255 - m))

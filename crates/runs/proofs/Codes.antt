@@ -11,8 +11,9 @@ use Rattle.rules.specs.Codes.{commandOf, codes, lookUp}
 use Rattle.rules.specs.declared.Action.the-variants.{SoftwareReset, ClearVtr, ClearSww, ClearFatl, SetCpui, SetDmai}
 use Rattle.rules.specs.declared.Command.{Command}
 use Rattle.rules.specs.declared.Command.the-variants.{Mr, Sar, Dscr, Show, Entry, Act, Unlisted}
-use Rattle.runs.specs.Cycles.{readOnly, onDescriptor, setOrClear, listed}
-use Rattle.runs.proofs.Tests.{each, at, and-l, and-r}
+use Rattle.runs.specs.Cycles.{readOnly, onDescriptor, setsAndClears, setOrClear, listed}
+use Rattle.runs.specs.Sequences.{among}
+use Rattle.runs.proofs.Tests.{each, at, all, same, and-l, and-r}
 
 abbrev pub isShow : Command → Bool
 isShow Mr = false
@@ -80,14 +81,15 @@ unlisted-past : (n : ℕ) → 0x20 < n → commandOf n ≡ Unlisted
 unfolding commandOf low
 unlisted-past n h = past n h codes refl
 
-same : (a b : Bool) → Bool·beq a b ≡ true → a ≡ b
-same true true e = refl
-same true false e = sym e
-same false true e = e
-same false false e = refl
+-- nor has any list of codes that antt finds to be so
+pub past-list : (l : List ℕ) → all (λ k. leb k 0x20) l ≡ true → (n : ℕ) → 0x20 < n → among n l ≡ false
+past-list [] e n h = refl
+past-list (k ∷ l) e n h =
+    let small : k ≤ 0x20 = leb-true _ _ (and-l (leb k 0x20) _ e) in
+    rw (ne-eqb n k (λ q. omega arith)) (past-list l (and-r (leb k 0x20) _ e) n h)
 
 -- a test of the command is a test of its number, where the two agree up to %20 and the second fails past it
-by-number : (p : Command → Bool) (q : ℕ → Bool) → each 0x21 (λ n. Bool·beq (p (commandOf n)) (q n)) ≡ true
+pub by-number : (p : Command → Bool) (q : ℕ → Bool) → each 0x21 (λ n. Bool·beq (p (commandOf n)) (q n)) ≡ true
     → p Unlisted ≡ false → ((n : ℕ) → 0x20 < n → q n ≡ false) → (n : ℕ) → p (commandOf n) ≡ q n
 by-number p q e none far n = go (ltb n 0x21) refl
   where
@@ -107,7 +109,7 @@ entry-codes = by-number isEntry onDescriptor refl refl λ n h. simp (lt-leb n 0x
 
 pub act-codes : (n : ℕ) → isAct (commandOf n) ≡ setOrClear n
 unfolding commandOf
-act-codes = by-number isAct setOrClear refl refl λ n h. simp (lt-leb n 0x11 (omega arith), lt-leb n 0x16 (omega arith), and-false)
+act-codes = by-number isAct setOrClear refl refl (past-list setsAndClears refl)
 
 pub listed-codes : (n : ℕ) → isListed (commandOf n) ≡ listed n
 unfolding commandOf

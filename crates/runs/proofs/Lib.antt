@@ -6,6 +6,7 @@ pub mod Codes
 pub mod Purposes
 pub mod Ways
 pub mod Runs
+pub mod Effects
 -- what is claimed in specs/, one file for each
 pub mod Undamaged
 pub mod Refusal
@@ -15,3 +16,5 @@ pub mod Wider
 pub mod Pairs
 pub mod Tighter
 pub mod Needed
+pub mod Apart
+pub mod Exchange

@@ -2,7 +2,7 @@
 -- Assumes nothing.
 use mathlib.Core.Path.{_≡_, refl, ap}
 use mathlib.Core.List.{List, [], _∷_, map}
-use Prim.Native.Nat.{ℕ, zero, suc}
+use Prim.Native.Nat.{ℕ, zero, suc, _<_}
 use native.Mathlib.Omega.{arith}
 use lib.ListN.{length, getD, set}
 
@@ -21,3 +21,19 @@ module _ {A : Type 0} where
   map-at R f d m (x ∷ s) [] e h i = absurd (omega arith)
   map-at R f d m (x ∷ s) (y ∷ t) e h zero = m x y (h 0)
   map-at R f d m (x ∷ s) (y ∷ t) e h (suc i) = map-at R f d m s t (omega arith) (λ j. h (suc j)) i
+
+  -- an entry that there is
+  pub at-map : (f : A → A) (l : List A) (i : ℕ) (d : A) → i < length l → getD (map f l) i d ≡ f (getD l i d)
+  at-map f [] i d h = absurd (omega arith)
+  at-map f (x ∷ l) zero d h = refl
+  at-map f (x ∷ l) (suc i) d h = at-map f l i d (omega arith)
+
+  pub map-set : (f : A → A) (l : List A) (i : ℕ) (x : A) → map f (set l i x) ≡ set (map f l) i (f x)
+  map-set f [] i x = refl
+  map-set f (a ∷ l) zero x = refl
+  map-set f (a ∷ l) (suc i) x = ap (λ (l : List A). f a ∷ l) (map-set f l i x)
+
+  -- where f then g is h, entry by entry
+  pub map-map : (f g h : A → A) → ((x : A) → g (f x) ≡ h x) → (l : List A) → map g (map f l) ≡ map h l
+  map-map f g h e [] = refl
+  map-map f g h e (x ∷ l) = rw (e x, map-map f g h e l)

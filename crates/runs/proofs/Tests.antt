@@ -1,13 +1,13 @@
 -- Laws of tests and of lists of facts.
 -- Assumes nothing.
-use mathlib.Core.Path.{_≡_, refl}
-use mathlib.Core.Bool.{Bool, true, false, cond, _&&_, _||_}
+use mathlib.Core.Path.{_≡_, refl, sym, subst}
+use mathlib.Core.Bool.{Bool, true, false, cond, _&&_, _||_, Bool·beq, false≢true}
 use mathlib.Core.List.{List, [], _∷_}
 use Prim.Native.Nat.{ℕ, zero, suc, _≤_, _<_}
 use native.Mathlib.Nat.{not-suc-le-zero, le-of-suc-le-suc}
-use lib.Dec.{ltb}
-use borrow.Author.Tests.{ltb-true, lt-ltb}
-use Rattle.runs.specs.Sequences.{_⇒_, Every}
+use lib.Dec.{ltb, eqb}
+use borrow.Author.Tests.{ltb-true, lt-ltb, eqb-true}
+use Rattle.runs.specs.Sequences.{_⇒_, Every, among}
 
 pub or-⇒ : (a b x y : Bool) → a ⇒ b → x ⇒ y → (a || x) ⇒ (b || y)
 or-⇒ true b x y h k e = rw (h refl)
@@ -43,6 +43,12 @@ pub or-r : (a b : Bool) → (a || b) ≡ false → b ≡ false
 or-r true b e = cc
 or-r false b e = e
 
+pub same : (a b : Bool) → Bool·beq a b ≡ true → a ≡ b
+same true true e = refl
+same true false e = sym e
+same false true e = e
+same false false e = refl
+
 pub cond-le : {x y n : ℕ} (t : Bool) → x ≤ n → y ≤ n → cond t x y ≤ n
 cond-le true h k = h
 cond-le false h k = k
@@ -60,3 +66,24 @@ at (suc n) p e (suc k) h = at n (λ j. p (suc j)) (and-r (p 0) _ e) k (le-of-suc
 pub every : {A : Type 0} (P : A → Type 0) → ((x : A) → P x) → (l : List A) → Every P l
 every P h [] = refl
 every P h (x ∷ l) = (h x, every P h l)
+
+-- what holds of each number in a list holds of a number that is in it
+pub of-each : (P : ℕ → Type 0) (l : List ℕ) → Every P l → (n : ℕ) → among n l ≡ true → P n
+of-each P [] h n e = absurd (false≢true e)
+of-each P (k ∷ l) h n e = go (eqb n k) refl e (of-each P l (h .1) n)
+  where
+    go : (t : Bool) → eqb n k ≡ t → (t || among n l) ≡ true → (among n l ≡ true → P n) → P n
+    go true f g later = subst P (sym (eqb-true n k f)) (h .0)
+    go false f g later = later g
+
+-- a test that antt computes of each element of a list
+abbrev pub all : {A : Type 0} → (A → Bool) → List A → Bool
+all p [] = true
+all p (x ∷ l) = p x && all p l
+
+pub all-true : {A : Type 0} (p : A → Bool) (l : List A) → all p l ≡ true → Every (λ x. p x ≡ true) l
+all-true p [] e = refl
+all-true p (x ∷ l) e = (and-l (p x) _ e, all-true p l (and-r (p x) _ e))
+
+pub of-all : (p : ℕ → Bool) (l : List ℕ) → all p l ≡ true → (n : ℕ) → among n l ≡ true → p n ≡ true
+of-all p l e = of-each (λ n. p n ≡ true) l (all-true p l e)

@@ -1,11 +1,13 @@
 -- Which cycles the claims name, by status and code number as document 01 prints them.
 -- Assumes nothing.
-use mathlib.Core.Bool.{Bool, not, _&&_, _||_}
+use mathlib.Core.Bool.{Bool, true, false, not, _&&_, _||_}
+use mathlib.Core.List.{List, [], _∷_}
 use Prim.Native.Nat.{ℕ}
 use lib.Dec.{eqb, leb}
 use Rattle.rules.specs.Bus.{cpu, write}
 use Rattle.rules.specs.Refusals.{outOfRange}
 use Rattle.rules.specs.declared.Cycle.{Cycle}
+use Rattle.runs.specs.Sequences.{among}
 
 -- "Status 3, CPU, select on: command", with the reset line off
 abbrev pub selectedCommand : Cycle → Bool
@@ -24,8 +26,11 @@ abbrev pub onDescriptor : (code : ℕ) → Bool
 onDescriptor n = leb 0x08 n && leb n 0x0F
 
 -- software reset %10, clear VTR %11, clear SWW %13, clear FATL %14, set all CPUI %15, set all DMAI %16
+abbrev pub setsAndClears : List ℕ
+setsAndClears = 0x10 ∷ 0x11 ∷ 0x13 ∷ 0x14 ∷ 0x15 ∷ 0x16 ∷ []
+
 abbrev pub setOrClear : (code : ℕ) → Bool
-setOrClear n = leb 0x10 n && leb n 0x11 || leb 0x13 n && leb n 0x16
+setOrClear n = among n setsAndClears
 
 -- %00 to %11, %13 to %16, and DSCR %20
 abbrev pub listed : (code : ℕ) → Bool
@@ -38,3 +43,21 @@ descriptorWrite c = not (outOfRange c) && selectedCommand c && write c && onDesc
 -- "Software reset": a write of %10
 abbrev pub softwareReset : Cycle → Bool
 softwareReset c = selectedCommand c && write c && eqb (c .offset) 0x10
+
+-- a selected CPU write with this code, in the ranges of 1; its data byte, its mode and its segment are left open
+abbrev pub writes : (code : ℕ) → Cycle → Bool
+writes n c = not (outOfRange c) && selectedCommand c && write c && eqb (c .offset) n
+
+-- a CPU write in system mode with select on, by its status, its code, its data byte and the reset line
+abbrev pub written : (status code byte : ℕ) → (reset : Bool) → Cycle
+written status code byte reset = record {
+  status = status;
+  read = false;
+  normal = false;
+  dma = false;
+  select = true;
+  segment = 0;
+  offset = code;
+  byte = byte;
+  reset = reset;
+}

@@ -6,3 +6,5 @@ pub mod Refusal
 pub mod Trap
 pub mod Notes
 pub mod Tighter
+pub mod Apart
+pub mod Exchange

@@ -1,8 +1,10 @@
 -- Words about lists and tests that the claims are written in.
 -- Assumes nothing.
 use mathlib.Core.Path.{_≡_}
-use mathlib.Core.Bool.{Bool, true}
+use mathlib.Core.Bool.{Bool, true, false, _||_}
 use mathlib.Core.List.{List, [], _∷_}
+use Prim.Native.Nat.{ℕ}
+use lib.Dec.{eqb}
 
 -- where the first test holds, the second does
 infixr 20 _⇒_
@@ -20,3 +22,8 @@ Both R [] [] = true ≡ true
 Both R [] (y ∷ ys) = ⊥
 Both R (x ∷ xs) [] = ⊥
 Both R (x ∷ xs) (y ∷ ys) = R x y × Both R xs ys
+
+-- a number is in a list
+abbrev pub among : ℕ → List ℕ → Bool
+among n [] = false
+among n (k ∷ ks) = eqb n k || among n ks

@@ -3,13 +3,12 @@
 use mathlib.Core.Path.{_≡_}
 use mathlib.Core.Bool.{Bool, true, false, _||_}
 use mathlib.Core.List.{List, [], _∷_}
-use Prim.Native.Nat.{ℕ}
 use Rattle.rules.specs.PowerOn.{powerOn}
 use Rattle.rules.specs.Runs.{answers}
 use Rattle.rules.specs.Step.{stepped}
 use Rattle.rules.specs.declared.Cycle.{Cycle}
 use Rattle.rules.specs.declared.Unit.{Unit}
-use Rattle.runs.specs.Cycles.{acknowledge, softwareReset}
+use Rattle.runs.specs.Cycles.{acknowledge, softwareReset, written}
 use Rattle.runs.specs.Sequences.{Every}
 
 -- CLAIM: "otherwise it shows the request after the cycle". After a refusal the request is what it was before, so this holds of every cycle.
@@ -42,22 +41,8 @@ requesting = record {
   };
 }
 
--- a CPU write with select on, by its status, its code and the reset line
-abbrev pub written : (status code : ℕ) → (reset : Bool) → Cycle
-written status code reset = record {
-  status = status;
-  read = false;
-  normal = false;
-  dma = false;
-  select = true;
-  segment = 0;
-  offset = code;
-  byte = 0;
-  reset = reset;
-}
-
 -- CLAIM: each of the three does take it back: an acknowledge, a reset, a software reset. So none of them can be left out above.
 abbrev pub EachTakesBack : Type 0
 EachTakesBack =
     Every (λ c. (takesBack c ≡ true) × (stepped requesting c .answer .trap ≡ false))
-    (written 4 0x00 false ∷ written 0 0x00 true ∷ written 3 0x10 false ∷ [])
+    (written 4 0x00 0 false ∷ written 0 0x00 0 true ∷ written 3 0x10 0 false ∷ [])
