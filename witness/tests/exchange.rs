@@ -1,26 +1,14 @@
 //! Set and clear commands, written one after another with nothing between
 //! them: ticket 10, and which other command each may change places with.
 
+use witness::commands::code::{CLEAR_FATL, CLEAR_SWW, CLEAR_VTR, RESET, SET_CPUI, SET_DMAI};
 use witness::cycle::{Answer, Cycle};
 use witness::generate::random::Random;
 use witness::step::Step;
 use witness::unit::{Descriptor, Unit};
 use witness::Document01;
 
-const SOFTWARE_RESET: u8 = 0x10;
-const CLEAR_VTR: u8 = 0x11;
-const CLEAR_SWW: u8 = 0x13;
-const CLEAR_FATL: u8 = 0x14;
-const SET_CPUI: u8 = 0x15;
-const SET_DMAI: u8 = 0x16;
-const SETS_AND_CLEARS: [u8; 6] = [
-    SOFTWARE_RESET,
-    CLEAR_VTR,
-    CLEAR_SWW,
-    CLEAR_FATL,
-    SET_CPUI,
-    SET_DMAI,
-];
+const SETS_AND_CLEARS: [u8; 6] = [RESET, CLEAR_VTR, CLEAR_SWW, CLEAR_FATL, SET_CPUI, SET_DMAI];
 
 /// Any undamaged unit.
 fn undamaged(random: &mut Random) -> Unit {
@@ -104,8 +92,8 @@ fn the_laws_of_the_ticket() {
     assert!(always(SET_DMAI, SET_DMAI, first_alone));
     assert!(always(SET_CPUI, SET_DMAI, exchanged));
     assert!(always(CLEAR_SWW, CLEAR_FATL, exchanged));
-    assert!(always(CLEAR_VTR, SOFTWARE_RESET, second_alone));
-    assert!(always(SOFTWARE_RESET, CLEAR_VTR, first_alone));
+    assert!(always(CLEAR_VTR, RESET, second_alone));
+    assert!(always(RESET, CLEAR_VTR, first_alone));
 }
 
 /// A software reset clears MR and DSCR, and %08, %0B, %0C and %0F go by DSCR;
@@ -114,10 +102,10 @@ fn the_laws_of_the_ticket() {
 fn these_change_places_and_no_others() {
     for first in SETS_AND_CLEARS {
         for second in 0..=0xFF {
-            let apart = match (first, second) {
-                (SOFTWARE_RESET | SET_CPUI | SET_DMAI, 0x08 | 0x0B | 0x0C | 0x0F) => true,
-                (SOFTWARE_RESET, 0x00 | 0x20) => true,
-                (SET_CPUI | SET_DMAI, 0x0A | 0x0E) => true,
+            let by_dscr = matches!(second, 0x08 | 0x0B | 0x0C | 0x0F);
+            let apart = match first {
+                RESET => by_dscr || matches!(second, 0x00 | 0x20),
+                SET_CPUI | SET_DMAI => by_dscr || matches!(second, 0x0A | 0x0E),
                 _ => false,
             };
             let holds = always(first, second, exchanged);
@@ -131,14 +119,15 @@ fn these_change_places_and_no_others() {
 fn these_may_be_left_out_and_no_others() {
     let part = |part, whole| match (part, whole) {
         (CLEAR_SWW | CLEAR_FATL, CLEAR_VTR) => true,
-        (CLEAR_VTR | CLEAR_SWW | CLEAR_FATL, SOFTWARE_RESET) => true,
+        (CLEAR_VTR | CLEAR_SWW | CLEAR_FATL, RESET) => true,
         _ => part == whole,
     };
     for first in SETS_AND_CLEARS {
         for second in SETS_AND_CLEARS {
+            let pair = format!("{first:02X} {second:02X}");
             let (one, other) = (part(second, first), part(first, second));
-            assert_eq!(always(first, second, first_alone), one);
-            assert_eq!(always(first, second, second_alone), other);
+            assert_eq!(always(first, second, first_alone), one, "{pair}");
+            assert_eq!(always(first, second, second_alone), other, "{pair}");
         }
     }
 }
@@ -148,8 +137,9 @@ fn these_may_be_left_out_and_no_others() {
 fn answers_beside_a_software_reset_differ() {
     for first in SETS_AND_CLEARS {
         for second in SETS_AND_CLEARS {
-            let alike = (first == SOFTWARE_RESET) == (second == SOFTWARE_RESET);
-            assert_eq!(always(first, second, same_answers), alike);
+            let alike = (first == RESET) == (second == RESET);
+            let holds = always(first, second, same_answers);
+            assert_eq!(holds, alike, "{first:02X} {second:02X}");
         }
     }
 }

@@ -15,12 +15,12 @@ use Rattle.rules.specs.Entry.{replaced, indexOf, nextCounter, nextSegment, move
 use Rattle.rules.specs.Commands.{given, controlled, programmed, entry, cleared, restarted, acted, executed, commanded}
 use Rattle.rules.specs.Step.{decided, placeOf, changed, decision, after}
 use Rattle.rules.specs.declared.Answer.{Answer}
-use Rattle.runs.specs.Apart.{standing, put, seen, Row, rows, differs, allDiffer, EachApart, beside, apart}
+use Rattle.runs.specs.Apart.{standing, put, seen, Row, rows, differs, EachApart, beside, apart}
 use Rattle.runs.specs.Cycles.{setsAndClears, setOrClear, writes}
 use Rattle.runs.specs.Exchange.{Exchange, FirstAlone, SameAnswers, part, clearsTrap}
-use Rattle.runs.specs.Sequences.{among}
+use Rattle.runs.specs.Sequences.{among, all}
 use Rattle.runs.specs.Undamaged.{Undamaged}
-use Rattle.runs.proofs.Tests.{and-l, and-r, same, all, of-all}
+use Rattle.runs.proofs.Tests.{and-l, and-r, same, of-all}
 
 -- The unit and the writes
 
@@ -49,20 +49,20 @@ three true false c e = absurd (false≢true e)
 three false b c e = absurd (false≢true e)
 
 row-unlike : (r : Row) → differs r ≡ true → after-two (r .acts) (r .other) ≡ after-two (r .other) (r .acts) → ⊥
-row-unlike r e same =
+row-unlike r e alike =
     let t : (eqb (after-two (r .acts) (r .other)) (r .thus) ≡ true) × ((eqb (after-two (r .other) (r .acts)) (r .turned) ≡ true) × (eqb (r .thus) (r .turned) ≡ false)) =
     three _ _ _ e in
-    eqb-false _ _ (t .1 .1) (sym (eqb-true _ _ (t .0)) ∙ same ∙ eqb-true _ _ (t .1 .0))
+    eqb-false _ _ (t .1 .1) (sym (eqb-true _ _ (t .0)) ∙ alike ∙ eqb-true _ _ (t .1 .0))
 
-rows-unlike : (x y : ℕ) (l : List Row) → allDiffer l ≡ true → among y (beside x l) ≡ true → after-two x y ≡ after-two y x → ⊥
-rows-unlike x y [] e m same = false≢true m
-rows-unlike x y (r ∷ l) e m same = go (eqb x (r .acts)) (eqb y (r .other)) refl refl m (λ m. rows-unlike x y l (and-r (differs r) _ e) m same)
+rows-unlike : (x y : ℕ) (l : List Row) → all differs l ≡ true → among y (beside x l) ≡ true → after-two x y ≡ after-two y x → ⊥
+rows-unlike x y [] e m alike = false≢true m
+rows-unlike x y (r ∷ l) e m alike = go (eqb x (r .acts)) (eqb y (r .other)) refl refl m (λ m. rows-unlike x y l (and-r (differs r) _ e) m alike)
   where
     go : (s t : Bool) → eqb x (r .acts) ≡ s → eqb y (r .other) ≡ t → among y (cond s (r .other ∷ beside x l) (beside x l)) ≡ true
         → (among y (beside x l) ≡ true → ⊥) → ⊥
     go true true f g m later =
         row-unlike r (and-l (differs r) _ e)
-        (ap₂ after-two (sym (eqb-true _ _ f)) (sym (eqb-true _ _ g)) ∙ same ∙ ap₂ after-two (eqb-true _ _ g) (eqb-true _ _ f))
+        (ap₂ after-two (sym (eqb-true _ _ f)) (sym (eqb-true _ _ g)) ∙ alike ∙ ap₂ after-two (eqb-true _ _ g) (eqb-true _ _ f))
     go true false f g m later = later (subst (λ (t : Bool). (t || among y (beside x l)) ≡ true) g m)
     go false t f g m later = later m
 

@@ -1,7 +1,7 @@
 -- Which command a code stands for, told by its number: antt computes the codes up to the last in the table, and past it none is listed.
 -- Assumes nothing.
 use mathlib.Core.Path.{_≡_, refl, sym, _∙_, ap}
-use mathlib.Core.Bool.{Bool, true, false, _&&_, Bool·beq, and-false}
+use mathlib.Core.Bool.{Bool, true, false, Bool·beq, and-false}
 use mathlib.Core.List.{List, [], _∷_}
 use Prim.Native.Nat.{ℕ, _<_, _≤_}
 use native.Mathlib.Omega.{arith}
@@ -12,8 +12,8 @@ use Rattle.rules.specs.declared.Action.the-variants.{SoftwareReset, ClearVtr, C
 use Rattle.rules.specs.declared.Command.{Command}
 use Rattle.rules.specs.declared.Command.the-variants.{Mr, Sar, Dscr, Show, Entry, Act, Unlisted}
 use Rattle.runs.specs.Cycles.{readOnly, onDescriptor, setsAndClears, setOrClear, listed}
-use Rattle.runs.specs.Sequences.{among}
-use Rattle.runs.proofs.Tests.{each, at, all, same, and-l, and-r}
+use Rattle.runs.specs.Sequences.{among, all}
+use Rattle.runs.proofs.Tests.{each, at, same, and-l, and-r}
 
 abbrev pub isShow : Command → Bool
 isShow Mr = false
@@ -66,22 +66,17 @@ isSoftwareReset (Act SetDmai) = false
 isSoftwareReset Unlisted = false
 
 -- no row of the table has a code above %20
-low : List (ℕ × Command) → Bool
-low [] = true
-low (row ∷ rows) = leb (row .0) 0x20 && low rows
-
-past : (n : ℕ) → 0x20 < n → (rows : List (ℕ × Command)) → low rows ≡ true → lookUp n rows ≡ Unlisted
-unfolding low
+past : (n : ℕ) → 0x20 < n → (rows : List (ℕ × Command)) → all (λ (row : ℕ × Command). leb (row .0) 0x20) rows ≡ true → lookUp n rows ≡ Unlisted
 past n h [] e = refl
 past n h (row ∷ rows) e =
     let small : row .0 ≤ 0x20 = leb-true _ _ (and-l (leb (row .0) 0x20) _ e) in
     rw (ne-eqb n (row .0) (λ q. omega arith)) (past n h rows (and-r (leb (row .0) 0x20) _ e))
 
 unlisted-past : (n : ℕ) → 0x20 < n → commandOf n ≡ Unlisted
-unfolding commandOf low
+unfolding commandOf
 unlisted-past n h = past n h codes refl
 
--- nor has any list of codes that antt finds to be so
+-- a list of codes up to %20 has none above it
 pub past-list : (l : List ℕ) → all (λ k. leb k 0x20) l ≡ true → (n : ℕ) → 0x20 < n → among n l ≡ false
 past-list [] e n h = refl
 past-list (k ∷ l) e n h =

@@ -32,7 +32,7 @@ use Rattle.runs.proofs.Tables.{at-map, map-set, map-map}
 use Rattle.rules.specs.declared.Kind.the-variants as kind
 
 -- what is decided in a command that writes
-abbrev pub decides : Command → Unit → Cycle → Decision
+abbrev decides : Command → Unit → Cycle → Decision
 decides m u c = executed m false (u .registers) (getD (u .table) (u .registers .control .sar % 64) none) c
 
 -- and what it does
@@ -151,6 +151,11 @@ clash resets Dscr = true
 clash resets (Show g) = false
 clash resets (Act a) = false
 clash resets Unlisted = false
+
+pub no-clash : (e : Effect) (a : Action) → clash e (Act a) ≡ false
+no-clash (clears m) a = refl
+no-clash (raises m) a = refl
+no-clash resets a = refl
 
 pub passes : (e : Effect) (k : Command) (u : Unit) (c : Cycle) → length (u .table) ≡ 64 → c .read ≡ false → clash e k ≡ false
     → done k (does e u) c .unit ≡ does e (done k u c .unit)

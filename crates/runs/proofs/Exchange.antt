@@ -28,13 +28,13 @@ use Rattle.runs.specs.Cycles.{selectedCommand, setsAndClears, setOrClear
 use Rattle.runs.specs.Exchange.{Exchange, FirstAlone, SecondAlone, SameAnswers, part, clearsTrap}
 use Rattle.runs.specs.Exchange.{ExchangesExactly, AloneExactly, AnswersExactly}
 use Rattle.runs.specs.Exchange.{CpuiTwice, DmaiTwice, CpuiDmai, SwwFatl, VtrBeforeReset, VtrAfterReset}
-use Rattle.runs.specs.Sequences.{Every, among}
+use Rattle.runs.specs.Sequences.{Every, among, all}
 use Rattle.runs.specs.Undamaged.{Undamaged}
 use Rattle.runs.proofs.Apart.{not-exchanged, only-part, only-alike}
 use Rattle.runs.proofs.Codes.{by-number, past-list}
 use Rattle.runs.proofs.Effects.{done, left, raises, resets, effect, does, said, acted-on, act-done}
-use Rattle.runs.proofs.Effects.{either, within, idle, clash, passes, isReset, said-after}
-use Rattle.runs.proofs.Tests.{and-l, and-r, same, of-each, all, all-true, of-all}
+use Rattle.runs.proofs.Effects.{either, within, idle, clash, no-clash, passes, isReset, said-after}
+use Rattle.runs.proofs.Tests.{and-l, and-r, same, of-each, all-true}
 use Rattle.runs.proofs.Undamaged.{undamaged-after}
 
 -- Writes
@@ -45,9 +45,9 @@ writing n c w =
     not-true _ (and-r (not (outOfRange c) && selectedCommand c) _ w₃)
 
 -- what all the laws rest on: a write that is refused neither by 2 nor by 1 does what its code stands for
-written : (n : ℕ) (u : Unit) (c : Cycle) → Undamaged u → writes n c ≡ true → stepped u c ≡ done (commandOf n) u c
+obeyed : (n : ℕ) (u : Unit) (c : Cycle) → Undamaged u → writes n c ≡ true → stepped u c ≡ done (commandOf n) u c
 unfolding decision decided placeOf after byStatus purposeOf commanded
-written n u c h w =
+obeyed n u c h w =
     let code : c .offset ≡ n = eqb-true _ _ (and-r (not (outOfRange c) && selectedCommand c && write c) _ w) in
     let w₃ : (not (outOfRange c) && selectedCommand c && write c) ≡ true = and-l (not (outOfRange c) && selectedCommand c && write c) _ w in
     let w₂ : (not (outOfRange c) && selectedCommand c) ≡ true = and-l (not (outOfRange c) && selectedCommand c) _ w₃ in
@@ -92,17 +92,17 @@ by-action : (P : ℕ → Type 0) → ((a : Action) → P (codeOf a)) → (x : �
 by-action P f = of-each P setsAndClears (f SoftwareReset, (f ClearVtr, (f ClearSww, (f ClearFatl, (f SetCpui, (f SetDmai, refl))))))
 
 acts : (a : Action) (u : Unit) (c : Cycle) → Undamaged u → writes (codeOf a) c ≡ true → stepped u c ≡ acted-on (effect a) u
-acts a u c h w = written (codeOf a) u c h w ∙ ap (λ (m : Command). done m u c) (stands-for a) ∙ act-done a u c
+acts a u c h w = obeyed (codeOf a) u c h w ∙ ap (λ (m : Command). done m u c) (stands-for a) ∙ act-done a u c
 
 -- Two writes
 
 exchange : (a : Action) (y : ℕ) → clash (effect a) (commandOf y) ≡ false → Exchange (codeOf a) y
 unfolding final
 exchange a y t u c d h v w =
-    ap left (written y (stepped u c .unit) d (undamaged-after u c h) w)
+    ap left (obeyed y (stepped u c .unit) d (undamaged-after u c h) w)
     ∙ ap (λ (s : Stepped). left (done (commandOf y) (left s) d)) (acts a u c h v)
     ∙ passes (effect a) (commandOf y) u d (h .size) (writing y d w) t
-    ∙ sym (ap left (acts a (stepped u d .unit) c (undamaged-after u d h) v) ∙ ap (λ (s : Stepped). does (effect a) (left s)) (written y u d h w))
+    ∙ sym (ap left (acts a (stepped u d .unit) c (undamaged-after u d h) v) ∙ ap (λ (s : Stepped). does (effect a) (left s)) (obeyed y u d h w))
 
 alone : (a b : Action) → within (effect b) (effect a) ≡ true → FirstAlone (codeOf a) (codeOf b)
 unfolding final
@@ -147,12 +147,10 @@ exchanges-exactly x y h =
     go true e claim = absurd (not-exchanged x y e claim)
     go false e claim = refl
 
--- no set or clear command is in the rows
-none-apart : (x y : ℕ) → setOrClear x ≡ true → setOrClear y ≡ true → among y (apart x) ≡ false
-none-apart x y h k =
-    not-true _
-    (of-all (λ y. not (among y (apart x))) setsAndClears
-    (of-all (λ x. all (λ y. not (among y (apart x))) setsAndClears) setsAndClears refl x h) y k)
+sets-and-clears : (x y : ℕ) → setOrClear x ≡ true → setOrClear y ≡ true → Exchange x y
+sets-and-clears x y h k =
+    by-action (λ x. Exchange x y)
+    (λ a. by-action (Exchange (codeOf a)) (λ b. exchange a (codeOf b) (ap (clash (effect a)) (stands-for b) ∙ no-clash (effect a) b)) y k) x h
 
 parts : (b a : Action) → within (effect b) (effect a) ≡ part (codeOf b) (codeOf a)
 parts b a =
@@ -165,7 +163,7 @@ parts b a =
 
 pub alone-exactly : AloneExactly
 alone-exactly x y h k =
-    let either-order : FirstAlone y x ↔ SecondAlone x y = turned x y (exchanges-exactly x y h .1 (none-apart x y h k)) in
+    let either-order : FirstAlone y x ↔ SecondAlone x y = turned x y (sets-and-clears x y h k) in
     ((only-part x y h k, first x y h k), (λ s. only-part y x k h (either-order .1 s), λ e. either-order .0 (first y x k h e)))
   where
     first : (x y : ℕ) → setOrClear x ≡ true → setOrClear y ≡ true → part y x ≡ true → FirstAlone x y

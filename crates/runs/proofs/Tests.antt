@@ -7,7 +7,7 @@ use Prim.Native.Nat.{ℕ, zero, suc, _≤_, _<_}
 use native.Mathlib.Nat.{not-suc-le-zero, le-of-suc-le-suc}
 use lib.Dec.{ltb, eqb}
 use borrow.Author.Tests.{ltb-true, lt-ltb, eqb-true}
-use Rattle.runs.specs.Sequences.{_⇒_, Every, among}
+use Rattle.runs.specs.Sequences.{_⇒_, Every, among, all}
 
 pub or-⇒ : (a b x y : Bool) → a ⇒ b → x ⇒ y → (a || x) ⇒ (b || y)
 or-⇒ true b x y h k e = rw (h refl)
@@ -75,11 +75,6 @@ of-each P (k ∷ l) h n e = go (eqb n k) refl e (of-each P l (h .1) n)
     go : (t : Bool) → eqb n k ≡ t → (t || among n l) ≡ true → (among n l ≡ true → P n) → P n
     go true f g later = subst P (sym (eqb-true n k f)) (h .0)
     go false f g later = later g
-
--- a test that antt computes of each element of a list
-abbrev pub all : {A : Type 0} → (A → Bool) → List A → Bool
-all p [] = true
-all p (x ∷ l) = p x && all p l
 
 pub all-true : {A : Type 0} (p : A → Bool) (l : List A) → all p l ≡ true → Every (λ x. p x ≡ true) l
 all-true p [] e = refl

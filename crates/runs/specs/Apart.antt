@@ -11,6 +11,7 @@ use Rattle.rules.specs.Runs.{final}
 use Rattle.rules.specs.declared.Cycle.{Cycle}
 use Rattle.rules.specs.declared.Unit.{Unit}
 use Rattle.runs.specs.Cycles.{written}
+use Rattle.runs.specs.Sequences.{all}
 
 -- every set and clear command has something to do here: MR %C0, DSCR 3, VTR %E0, the trap line stands; all else as at power-on
 abbrev pub standing : Unit
@@ -41,7 +42,7 @@ pub record Row : Type 0 where
   pub thus : ℕ
   pub turned : ℕ
 
-abbrev pub row : (acts other thus turned : ℕ) → Row
+abbrev row : (acts other thus turned : ℕ) → Row
 row acts other thus turned = record { acts = acts; other = other; thus = thus; turned = turned }
 
 abbrev pub rows : List Row
@@ -78,13 +79,9 @@ differs r =
     && eqb (seen (final standing (put (r .other) ∷ put (r .acts) ∷ []))) (r .turned)
     && not (eqb (r .thus) (r .turned))
 
-abbrev pub allDiffer : List Row → Bool
-allDiffer [] = true
-allDiffer (r ∷ rs) = differs r && allDiffer rs
-
 -- CLAIM: each row is a counterexample.
 abbrev pub EachApart : Type 0
-EachApart = allDiffer rows ≡ true
+EachApart = all differs rows ≡ true
 
 -- the codes that the rows have beside x
 abbrev pub beside : (x : ℕ) → List Row → List ℕ

@@ -16,7 +16,7 @@ use Rattle.runs.specs.Undamaged.{Undamaged}
 
 -- What is said of two codes
 
--- a write of x and then one of y give what other cycles give: the unit left (`final`), or the answers
+-- a write of x, then one of y, give what the cycles `other` give; `gives` is the unit left (`final`) or the answers
 abbrev pub OfWrites : {A : Type 0} → (gives : Unit → List Cycle → A) → (x y : ℕ) → (other : Cycle → Cycle → List Cycle) → Type 0
 OfWrites gives x y other =
     (u : Unit) (c d : Cycle)

@@ -1,7 +1,7 @@
 -- Words about lists and tests that the claims are written in.
 -- Assumes nothing.
 use mathlib.Core.Path.{_≡_}
-use mathlib.Core.Bool.{Bool, true, false, _||_}
+use mathlib.Core.Bool.{Bool, true, false, _&&_, _||_}
 use mathlib.Core.List.{List, [], _∷_}
 use Prim.Native.Nat.{ℕ}
 use lib.Dec.{eqb}
@@ -27,3 +27,8 @@ Both R (x ∷ xs) (y ∷ ys) = R x y × Both R xs ys
 abbrev pub among : ℕ → List ℕ → Bool
 among n [] = false
 among n (k ∷ ks) = eqb n k || among n ks
+
+-- a test holds of each element of a list
+abbrev pub all : {A : Type 0} → (A → Bool) → List A → Bool
+all p [] = true
+all p (x ∷ l) = p x && all p l
