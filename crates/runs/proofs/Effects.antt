@@ -1,7 +1,7 @@
 -- What a set or clear command does to a unit, whatever its data byte, and how that goes together with what other commands do.
 -- Assumes nothing.
 use mathlib.Core.Path.{_≡_, refl, sym, _∙_, ap}
-use mathlib.Core.Bool.{Bool, true, false, true≢false, false≢true}
+use mathlib.Core.Bool.{Bool, true, false, not, _&&_, true≢false, false≢true}
 use mathlib.Core.List.{map}
 use Prim.Native.Nat.{ℕ, _-_, _%_}
 use native.Mathlib.Omega.{arith}
@@ -67,12 +67,15 @@ does (clears m) u = record { table = u .table; registers = cleared (u .registers
 does (raises m) u = record { table = map (marked m) (u .table); registers = u .registers }
 does resets u = record { table = u .table; registers = restarted (u .registers) 0 }
 
--- and what it answers: nothing is driven, and the trap line is as the request stands after it
-abbrev pub said : Unit → Answer
-said u = record { kind = kind.Command; lines = off; sup = false; trap = u .registers .notes .request; drives = false; byte = 0 }
+-- what it answers: nothing is driven, and the trap line is as the request stands after it
+abbrev pub said : (request : Bool) → Answer
+said request = record { kind = kind.Command; lines = off; sup = false; trap = request; drives = false; byte = 0 }
+
+abbrev pub request : Unit → Bool
+request u = u .registers .notes .request
 
 abbrev pub acted-on : Effect → Unit → Stepped
-acted-on e u = record { unit = does e u; answer = said (does e u) }
+acted-on e u = record { unit = does e u; answer = said (request (does e u)) }
 
 pub act-done : (a : Action) (u : Unit) (c : Cycle) → done (Act a) u c ≡ acted-on (effect a) u
 unfolding does executed acted plain cleared restarted changed
@@ -194,14 +197,8 @@ isReset (clears m) = false
 isReset (raises m) = false
 isReset resets = true
 
-pub said-after : (e f : Effect) (u : Unit) → isReset e ≡ isReset f → said (does e u) ≡ said (does f u)
+pub request-after : (e : Effect) (u : Unit) → request (does e u) ≡ (not (isReset e) && request u)
 unfolding does cleared restarted
-said-after (clears m) (clears n) u t = refl
-said-after (clears m) (raises n) u t = refl
-said-after (clears m) resets u t = absurd (false≢true t)
-said-after (raises m) (clears n) u t = refl
-said-after (raises m) (raises n) u t = refl
-said-after (raises m) resets u t = absurd (false≢true t)
-said-after resets (clears n) u t = absurd (true≢false t)
-said-after resets (raises n) u t = absurd (true≢false t)
-said-after resets resets u t = refl
+request-after (clears m) u = refl
+request-after (raises m) u = refl
+request-after resets u = refl

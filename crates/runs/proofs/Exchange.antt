@@ -17,7 +17,6 @@ use Rattle.rules.specs.Commands.{commanded}
 use Rattle.rules.specs.Step.{decided, placeOf, decision, after, stepped}
 use Rattle.rules.specs.declared.Action.{Action}
 use Rattle.rules.specs.declared.Action.the-variants.{SoftwareReset, ClearVtr, ClearSww, ClearFatl, SetCpui, SetDmai}
-use Rattle.rules.specs.declared.Answer.{Answer}
 use Rattle.rules.specs.declared.Command.{Command}
 use Rattle.rules.specs.declared.Command.the-variants.{Act}
 use Rattle.rules.specs.declared.Cycle.{Cycle}
@@ -32,8 +31,8 @@ use Rattle.runs.specs.Sequences.{Every, among, all}
 use Rattle.runs.specs.Undamaged.{Undamaged}
 use Rattle.runs.proofs.Apart.{not-exchanged, only-part, only-alike}
 use Rattle.runs.proofs.Codes.{by-number, past-list}
-use Rattle.runs.proofs.Effects.{done, left, raises, resets, effect, does, said, acted-on, act-done}
-use Rattle.runs.proofs.Effects.{either, within, idle, clash, no-clash, passes, isReset, said-after}
+use Rattle.runs.proofs.Effects.{done, left, raises, resets, effect, does, said, request, acted-on, act-done}
+use Rattle.runs.proofs.Effects.{either, within, idle, clash, no-clash, passes, isReset, request-after}
 use Rattle.runs.proofs.Tests.{and-l, and-r, same, of-each, all-true}
 use Rattle.runs.proofs.Undamaged.{undamaged-after}
 
@@ -116,7 +115,7 @@ turned : (x y : ℕ) → Exchange x y → FirstAlone y x ↔ SecondAlone x y
 turned x y e = (λ f u c d h v w. e u c d h v w ∙ f u d c h w v, λ s u d c h w v. sym (e u c d h v w) ∙ s u c d h v w)
 
 two-said : (a b : Action) (u : Unit) (c d : Cycle) → Undamaged u → writes (codeOf a) c ≡ true → writes (codeOf b) d ≡ true
-    → answers u (c ∷ d ∷ []) ≡ said (does (effect a) u) ∷ said (does (effect b) (does (effect a) u)) ∷ []
+    → answers u (c ∷ d ∷ []) ≡ said (request (does (effect a) u)) ∷ said (request (does (effect b) (does (effect a) u))) ∷ []
 unfolding answers
 two-said a b u c d h v w =
     ap₂ (λ (s t : Stepped). s .answer ∷ t .answer ∷ []) (acts a u c h v)
@@ -125,7 +124,9 @@ two-said a b u c d h v w =
 same-answers : (a b : Action) → isReset (effect a) ≡ isReset (effect b) → SameAnswers (codeOf a) (codeOf b)
 same-answers a b t u c d h v w =
     two-said a b u c d h v w
-    ∙ ap₂ (λ (p q : Answer). p ∷ q ∷ []) (said-after (effect a) (effect b) u t) (ap said (either (effect a) (effect b) u))
+    ∙ ap₂ (λ (p q : Bool). said p ∷ said q ∷ [])
+    (request-after (effect a) u ∙ ap (λ (t : Bool). not t && request u) t ∙ sym (request-after (effect b) u))
+    (ap request (either (effect a) (effect b) u))
     ∙ sym (two-said b a u d c h w v)
 
 -- Every pair

@@ -12,6 +12,7 @@ use Rattle.rules.specs.declared.Cycle.{Cycle}
 use Rattle.rules.specs.declared.Unit.{Unit}
 use Rattle.runs.specs.Cycles.{written}
 use Rattle.runs.specs.Sequences.{all}
+use Rattle.runs.specs.Trap.{requesting}
 
 -- every set and clear command has something to do here: MR %C0, DSCR 3, VTR %E0, the trap line stands; all else as at power-on
 abbrev pub standing : Unit
@@ -21,7 +22,7 @@ standing = record {
     control = record { mr = 0xC0; sar = 0; dscr = 3 };
     faults = record { vtr = 0xE0; vsn = 0; voff = 0; bcsr = 0 };
     fetched = powerOn .registers .fetched;
-    notes = record { request = true; awaits = false; own = false; hold = false };
+    notes = requesting .registers .notes;
   };
 }
 
