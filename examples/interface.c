@@ -1,6 +1,6 @@
 /* interface: what distantarm.h says, tried through C. Where the registers, notes and descriptors stand and each kind of answer; then all
- * that is refused: buffers that are too short, damaged units, strange notes, cycles out of range, commands that are not there. A refusal
- * must give its number and leave what it says it leaves. Status 0 if all is so, else 1. */
+ * that is refused: buffers that are too short, damaged units, orphans in the VTR, strange notes, cycles out of range, commands that are
+ * not there. A refusal must give its number and leave what it says it leaves. Status 0 if all is so, else 1. */
 #include <stdio.h>
 #include <string.h>
 
@@ -143,7 +143,7 @@ static void power_on(void)
     expect(memcmp(unit + UNIT, was + UNIT, PAST) == 0, "power-on leaves what is past the unit");
 }
 
-/* Refusals 2, before 1, for each register that it looks at, and for notes above 15. */
+/* Refusal 2, before 1, for each register that has a bound, and for notes above 15. */
 static void damaged_units(void)
 {
     static const struct { int at, least; } bounds[] = {
@@ -163,6 +163,28 @@ static void damaged_units(void)
                 refuses(DISTANTARM_DAMAGED, unit, plain, "a damaged unit");
                 refuses(DISTANTARM_DAMAGED, unit, outside, "a damaged unit, and a cycle out of range");
             }
+}
+
+/* Refusal 2 for the VTR: for exactly those values that have SWW or FATL and no primary flag, %40, %80 and %C0, in a reset too. */
+static void orphans(void)
+{
+    const struct cycle outside = {16, 128, 0x12, 0, true, false, false}, reset = {0, 0, 0, 0, true, false, true};
+    uint8_t unit[UNIT + PAST];
+    int vtr, notes;
+
+    for (vtr = 0; vtr < 256; vtr++)
+        for (notes = 0; notes < 16; notes++) {
+            fill(unit, sizeof unit);
+            unit[DISTANTARM_NOTES] = (uint8_t)notes;
+            unit[DISTANTARM_VTR] = (uint8_t)vtr;
+            if (vtr != 0x40 && vtr != 0x80 && vtr != 0xC0) {
+                refuses(DISTANTARM_OUT_OF_RANGE, unit, outside, "no orphan, and a cycle out of range");
+                continue;
+            }
+            refuses(DISTANTARM_DAMAGED, unit, plain, "an orphan");
+            refuses(DISTANTARM_DAMAGED, unit, outside, "an orphan, and a cycle out of range");
+            refuses(DISTANTARM_DAMAGED, unit, reset, "an orphan, and a reset");
+        }
 }
 
 /* Refusals 1, 3 and 4 of an undamaged unit, for each of the sixteen notes bytes. */
@@ -204,6 +226,7 @@ int main(void)
     power_on();
     short_buffers();
     damaged_units();
+    orphans();
     refused_cycles();
     listing();
     printf("interface: %d of %d tries as distantarm.h says\n", tried - failed, tried);

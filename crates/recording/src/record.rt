@@ -32,11 +32,10 @@ pub fn bus_status(c: Cycle) -> u8
     c.status % 16 | flags::flag_if(c.read, Unit::READ) | flags::flag_if(c.normal, Unit::NORMAL)
 }
 
-// No primary flag stands: all is stored.
+// No primary flag stands: all is stored, and the unit asks.
 pub fn first_entry(r: Registers, c: Cycle, event: u8) -> Registers
     ensures { λ q. ⌜ q ≡ firstEntry r c event ⌝ }
 {
-    let asks = r.faults.vtr & Unit::FATL == 0;
     Registers {
         control: Control {
             mr: r.control.mr,
@@ -54,8 +53,8 @@ pub fn first_entry(r: Registers, c: Cycle, event: u8) -> Registers
             ioff: r.fetched.ioff,
         },
         notes: Notes {
-            request: r.notes.request | asks,
-            awaits: r.notes.awaits | asks,
+            request: true,
+            awaits: true,
             own: true,
             hold: r.notes.hold,
         },

@@ -32,25 +32,24 @@ noting r f n = record { control = r .control; faults = f; fetched = r .fetched; 
 abbrev pub flagged : Faults → ℕ → Faults
 flagged f flags = record { vtr = with (f .vtr) flags; vsn = f .vsn; voff = f .voff; bcsr = f .bcsr }
 
--- request and await set where `asks` holds, else as they were; own as said
-abbrev pub asked : Notes → (asks own : Bool) → Notes
-asked n asks own = record { request = n .request || asks; awaits = n .awaits || asks; own = own; hold = n .hold }
-
--- "its violation flags, or PWW, are added; VSN (segment modulo 64), VOFF and BCSR are stored; own is set; request and await are set.
--- An orphan [..] takes this row too, but sets neither request nor await while FATL stands."
+-- "its violation flags, or PWW, are added; VSN (segment modulo 64), VOFF and BCSR are stored; own is set; request and await are set."
 unfoldable pub firstEntry : Registers → Cycle → (event : ℕ) → Registers
 firstEntry r c event =
     noting r
     (record { vtr = with (r .faults .vtr) event; vsn = c .segment % 64; voff = c .offset; bcsr = busStatus c })
-    (asked (r .notes) (lacks (r .faults .vtr) FATL) true)
+    (record { request = true; awaits = true; own = true; hold = r .notes .hold })
 
 -- "flags are added, nothing else; addresses stay"
 unfoldable pub added : Registers → (event : ℕ) → Registers
 added r event = noting r (flagged (r .faults) event) (r .notes)
 
+-- request and await set where `asks` holds, else as they were
+abbrev pub asked : Notes → (asks : Bool) → Notes
+asked n asks = record { request = n .request || asks; awaits = n .awaits || asks; own = n .own; hold = n .hold }
+
 -- "FATL is set; request and await only if FATL was clear"; the same of SWW, "with request and await only while FATL is clear"
 unfoldable pub raised : Registers → (flag : ℕ) → Registers
-raised r flag = noting r (flagged (r .faults) flag) (asked (r .notes) (lacks (r .faults .vtr) FATL) (r .notes .own))
+raised r flag = noting r (flagged (r .faults) flag) (asked (r .notes) (lacks (r .faults .vtr) FATL))
 
 -- "warning in system mode at status %9"
 abbrev pub stackWarning : Cycle → (event : ℕ) → Bool

@@ -1,7 +1,9 @@
 -- Document 01, "Numbers that say no": 2 and 1, and what a refusal gives back. 3 and 4 are met in `Commands`.
-use mathlib.Core.Bool.{Bool, false, _||_}
+use mathlib.Core.Bool.{Bool, false, _&&_, _||_}
 use Prim.Native.Nat.{ℕ}
 use lib.Dec.{ltb}
+use Rattle.rules.specs.Flags.{has, lacks}
+use Rattle.rules.specs.Masks.{SWW, FATL, PRIMARY}
 use Rattle.rules.specs.declared.Change.{Change}
 use Rattle.rules.specs.declared.Cycle.{Cycle}
 use Rattle.rules.specs.declared.Decision.{Decision}
@@ -11,11 +13,16 @@ use Rattle.rules.specs.declared.Registers.{Registers}
 use Rattle.rules.specs.declared.Change.the-variants as change
 use Rattle.rules.specs.declared.Kind.the-variants as kind
 
--- "2: SAR, VSN, ISN or BCSR above 63, or DSCR above 3". "A unit that doesn't meet 2 is called undamaged."
+-- ticket 11: "SWW or FATL or both standing without a primary flag"
+abbrev pub orphan : (vtr : ℕ) → Bool
+orphan v = lacks v PRIMARY && (has v SWW || has v FATL)
+
+-- "2: SAR, VSN, ISN or BCSR above 63, or DSCR above 3"; ticket 11: "2 gains this condition". "A unit that doesn't meet 2 is called
+-- undamaged."
 unfoldable pub damaged : Registers → Bool
 damaged r =
     ltb 63 (r .control .sar) || ltb 63 (r .faults .vsn) || ltb 63 (r .fetched .isn) || ltb 63 (r .faults .bcsr)
-    || ltb 3 (r .control .dscr)
+    || ltb 3 (r .control .dscr) || orphan (r .faults .vtr)
 
 -- "1: status above 15 or segment above 127"
 unfoldable pub outOfRange : Cycle → Bool

@@ -1,10 +1,12 @@
--- Document 01, "Proved rows": one table. Each row is a unit, the cycles before, the cycle that is looked at, and what is seen after it.
+-- Document 01, "Proved rows", and rows of ticket 11: one table. Each row is a unit, the cycles before, the cycle that is looked at, and what
+-- is seen after it.
 -- `Rows` (proofs/) shows that all of them hold of the rules.
 use mathlib.Core.Bool.{Bool, true, false, _&&_}
 use mathlib.Core.List.{List, [], _∷_, _++_}
 use Prim.Native.Nat.{ℕ, zero, suc}
 use lib.Dec.{eqb}
 use lib.ListN.{set}
+use Rattle.rules.specs.Kinds.{numberOf}
 use Rattle.rules.specs.PowerOn.{none, quiet, powerOn}
 use Rattle.rules.specs.Step.{stepped}
 use Rattle.rules.specs.Runs.{final}
@@ -112,6 +114,20 @@ command read code b = record {
   reset = false;
 }
 
+-- the reset line on, select off
+abbrev pub resets : Cycle
+resets = record {
+  status = 0;
+  read = true;
+  normal = false;
+  dma = false;
+  select = false;
+  segment = 0;
+  offset = 0;
+  byte = 0;
+  reset = true;
+}
+
 abbrev pub bit : Bool → ℕ
 bit true = 1
 bit false = 0
@@ -137,6 +153,14 @@ isSlv s = (sup s, 1) ∷ (vtr s, 4) ∷ []
 
 abbrev pub isWarning : Stepped → List (ℕ × ℕ)
 isWarning s = (sup s, 0) ∷ (vtr s, 32) ∷ []
+
+-- seen: refused with 2, the trap line and the VTR as they stood
+abbrev pub isDamaged : (standing : ℕ) → Stepped → List (ℕ × ℕ)
+isDamaged v s = (numberOf (s .answer .kind), 2) ∷ (vtr s, v) ∷ (trap s, 1) ∷ []
+
+-- seen: a command, and the VTR that it leaves
+abbrev pub leaves : (left : ℕ) → Stepped → List (ℕ × ℕ)
+leaves v s = (numberOf (s .answer .kind), 0) ∷ (vtr s, v) ∷ []
 
 abbrev pub row : Unit → Cycle → (Stepped → List (ℕ × ℕ)) → Row
 row u c said = record { unit = u; before = []; cycle = c; said = said }
@@ -211,5 +235,19 @@ stacks =
     (λ s. (vtr s, 96) ∷ (trap s, 0) ∷ []) ∷
     []
 
+-- Ticket 11. SWW alone, FATL alone, both: "such a VTR counts as damaged", and a reset does not mend it. A clear command on PWW beside both
+-- leaves a primary flag or nothing.
+abbrev pub orphans : List Row
+orphans =
+    row (unitAt 192 0 0 64 true none) (reads 0) (isDamaged 64) ∷
+    row (unitAt 192 0 0 128 true none) (reads 0) (isDamaged 128) ∷
+    row (unitAt 192 0 0 192 true none) (reads 0) (isDamaged 192) ∷
+    row (unitAt 192 0 0 64 true none) resets (isDamaged 64) ∷
+    row (unitAt 192 0 0 128 true none) (command false 17 0) (isDamaged 128) ∷
+    row (unitAt 192 0 0 224 true none) (command false 17 0) (leaves 0) ∷
+    row (unitAt 192 0 0 224 true none) (command false 19 0) (leaves 160) ∷
+    row (unitAt 192 0 0 224 true none) (command false 20 0) (leaves 96) ∷
+    []
+
 abbrev pub rows : List Row
-rows = sums ++ (lengths ++ (recording ++ (commands ++ (others ++ stacks))))
+rows = sums ++ (lengths ++ (recording ++ (commands ++ (others ++ (stacks ++ orphans)))))

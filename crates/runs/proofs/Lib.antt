@@ -8,6 +8,7 @@ pub mod Ways
 pub mod Runs
 pub mod Effects
 -- what is claimed in specs/, one file for each
+pub mod Orphans
 pub mod Undamaged
 pub mod Refusal
 pub mod Trap

@@ -36,7 +36,7 @@ became-requests (quiets f) e h = absurd (true≢false (sym f ∙ e))
 became-requests resumes e h = h
 became-requests (begins starts) e h = h
 became-requests {c} {r} (records starts event small stores holds) e h =
-    by-row Requests (begun r starts) c event h (λ n p. rw h) (λ p. h) (λ flag p. rw h)
+    by-row Requests (begun r starts) c event h (λ n p. refl) (λ p. h) (λ flag p. rw h)
 
 request-stands : (u : Unit) (c : Cycle) → takesBack c ≡ false → Requests (u .registers) → Requests (stepped u c .unit .registers)
 unfolding after

@@ -24,6 +24,7 @@ use Rattle.rules.specs.declared.Registers.{Registers}
 use Rattle.rules.specs.declared.Unit.{Unit}
 use Rattle.runs.specs.Undamaged.{Bounded, Undamaged, BoundedExactly, StaysUndamaged, UndamagedFromPowerOn, UndamagedThroughout}
 use Rattle.runs.proofs.Bits.{or-if}
+use Rattle.runs.proofs.Orphans.{Rooted, became-rooted}
 use Rattle.runs.proofs.Runs.{always, throughout}
 use Rattle.runs.proofs.Ways.{Became, stayed, controls, empties, clears, restarts, quiets, resumes, begins}
 use Rattle.runs.proofs.Ways.{records, by-row, made}
@@ -31,27 +32,39 @@ use Rattle.runs.proofs.Tests.{cond-le, or-l, or-r}
 
 -- The bounds
 
-sound-bounded : (r : Registers) → damaged r ≡ false → Bounded r
+sound-bounded : (r : Registers) → damaged r ≡ false → Bounded r × Rooted r
 unfolding damaged
 sound-bounded r h =
     let a : Bool = ltb 63 (r .control .sar) in
     let b : Bool = ltb 63 (r .faults .vsn) in
     let c : Bool = ltb 63 (r .fetched .isn) in
     let d : Bool = ltb 63 (r .faults .bcsr) in
-    let h₄ : (a || b || c || d) ≡ false = or-l (a || b || c || d) _ h in
+    let e : Bool = ltb 3 (r .control .dscr) in
+    let h₅ : (a || b || c || d || e) ≡ false = or-l (a || b || c || d || e) _ h in
+    let h₄ : (a || b || c || d) ≡ false = or-l (a || b || c || d) _ h₅ in
     let h₃ : (a || b || c) ≡ false = or-l (a || b || c) _ h₄ in
-    let h₂ : (a || b) ≡ false = or-l (a || b) _ h₃ in
-    record {
-      sar = ltb-false _ _ (or-l a _ h₂);
-      vsn = ltb-false _ _ (or-r a b h₂);
-      isn = ltb-false _ _ (or-r (a || b) c h₃);
-      bcsr = ltb-false _ _ (or-r (a || b || c) d h₄);
-      dscr = ltb-false _ _ (or-r (a || b || c || d) _ h);
-    }
+    let h₂ : (a || b) ≡ false = or-l (a || b) _ h₃ in (
+      record {
+        sar = ltb-false _ _ (or-l a _ h₂);
+        vsn = ltb-false _ _ (or-r a b h₂);
+        isn = ltb-false _ _ (or-r (a || b) c h₃);
+        bcsr = ltb-false _ _ (or-r (a || b || c) d h₄);
+        dscr = ltb-false _ _ (or-r (a || b || c || d) e h₅);
+      },
+      or-r (a || b || c || d || e) _ h,
+    )
 
-bounded-sound : (r : Registers) → Bounded r → damaged r ≡ false
+bounded-sound : (r : Registers) → Bounded r × Rooted r → damaged r ≡ false
 unfolding damaged
-bounded-sound r f = simp (le-ltb _ _ (f .sar), le-ltb _ _ (f .vsn), le-ltb _ _ (f .isn), le-ltb _ _ (f .bcsr), le-ltb _ _ (f .dscr))
+bounded-sound r f =
+    simp (
+      le-ltb _ _ (f .0 .sar),
+      le-ltb _ _ (f .0 .vsn),
+      le-ltb _ _ (f .0 .isn),
+      le-ltb _ _ (f .0 .bcsr),
+      le-ltb _ _ (f .0 .dscr),
+      f .1,
+    )
 
 pub bounded-exactly : BoundedExactly
 bounded-exactly r = (sound-bounded r, bounded-sound r)
@@ -92,9 +105,10 @@ changed-size (Raise m) i t = length-map t _
 pub undamaged-after : (u : Unit) (c : Cycle) → Undamaged u → Undamaged (stepped u c .unit)
 unfolding after
 undamaged-after u c h =
+    let before : Bounded (u .registers) × Rooted (u .registers) = sound-bounded _ (h .sound) in
     record {
       size = changed-size (decision u c .change) (place u c) (u .table) ∙ h .size;
-      sound = bounded-sound _ (became-bounded (made u c .became) (sound-bounded _ (h .sound)));
+      sound = bounded-sound _ (became-bounded (made u c .became) (before .0), became-rooted (made u c .became) (before .1));
     }
 
 -- Runs

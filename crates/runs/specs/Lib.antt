@@ -1,6 +1,7 @@
 -- What is claimed of every sequence of cycles. Each claim is a type, and proofs/ has a proof of it.
 pub mod Sequences
 pub mod Cycles
+pub mod Orphans
 pub mod Undamaged
 pub mod Refusal
 pub mod Trap

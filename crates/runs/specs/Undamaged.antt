@@ -7,7 +7,7 @@ use mathlib.Core.Logic.{_↔_}
 use Prim.Native.Nat.{_≤_}
 use lib.ListN.{length}
 use Rattle.rules.specs.PowerOn.{powerOn}
-use Rattle.rules.specs.Refusals.{damaged}
+use Rattle.rules.specs.Refusals.{orphan, damaged}
 use Rattle.rules.specs.Runs.{final, units}
 use Rattle.rules.specs.declared.Cycle.{Cycle}
 use Rattle.rules.specs.declared.Registers.{Registers}
@@ -28,9 +28,9 @@ pub record Undamaged (u : Unit) : Type 0 where
   pub size : length (u .table) ≡ 64
   pub sound : damaged (u .registers) ≡ false
 
--- CLAIM: the bounds hold exactly where 2 is not met.
+-- CLAIM: 2 is not met exactly where the bounds hold and no orphan stands.
 abbrev pub BoundedExactly : Type 0
-BoundedExactly = (r : Registers) → (damaged r ≡ false) ↔ Bounded r
+BoundedExactly = (r : Registers) → (damaged r ≡ false) ↔ (Bounded r × (orphan (r .faults .vtr) ≡ false))
 
 -- CLAIM: an undamaged unit stays undamaged, whatever cycles come, in whatever order.
 abbrev pub StaysUndamaged : Type 0

@@ -6,4 +6,4 @@ use Rattle.recording.proofs.record.first_entry.Tie as tie
 
 pub first-entry-spec : {M : Type 1} → statement M
 unfolding firstEntry
-first-entry-spec = tie.close (tie.spec (λ c κs. search needs) (λ c. simp (← c .before .before .bus-status .ensures)))
+first-entry-spec = tie.close (tie.spec (λ c κs. search needs) (λ c. simp (← c .bus-status .ensures)))
