@@ -249,5 +249,6 @@ orphans =
     row (unitAt 192 0 0 224 true none) (command false 20 0) (leaves 96) ∷
     []
 
+-- the lengths last: they are the most, and a wrong row before them is told at once
 abbrev pub rows : List Row
-rows = sums ++ (lengths ++ (recording ++ (commands ++ (others ++ (stacks ++ orphans)))))
+rows = sums ++ (recording ++ (commands ++ (others ++ (stacks ++ (orphans ++ lengths)))))

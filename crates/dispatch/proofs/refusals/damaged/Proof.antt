@@ -6,4 +6,4 @@ use Rattle.dispatch.proofs.refusals.damaged.Tie as tie
 
 pub damaged-spec : {M : Type 1} → statement M
 unfolding damaged
-damaged-spec = tie.close (tie.spec (λ c κs. search needs) (λ c. simp (← c .orphan .ensures)))
+damaged-spec = tie.close (tie.spec (λ c κs. search needs) (λ c. simp (c .orphan .ensures)))
