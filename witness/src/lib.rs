@@ -1,5 +1,6 @@
 //! A second reading of document 01, the rules of the U8010 memory management
-//! unit, transcribed from the paper's text alone and updated in place.
+//! unit, transcribed from the text of the paper and its tickets alone and
+//! updated in place.
 //!
 //! Each rule is a method of a small trait with the paper's reading as its
 //! default body. `Document01` takes every default; a wrong reading, made to

@@ -90,7 +90,7 @@ pub trait Memory: Translation + Checks + Recording {
         }
     }
 
-    /// All eight bits of the VTR count, so an orphan blocks this too.
+    /// VTR zero, all eight bits: in an undamaged unit that is no primary flag.
     fn keeps_instruction(unit: &Unit, cycle: &Cycle, finding: Finding) -> bool {
         Self::fetches(unit, cycle) && !matches!(finding, Finding::Violation(_)) && unit.vtr == 0
     }

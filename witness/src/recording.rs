@@ -27,18 +27,14 @@ pub trait Recording {
         }
     }
 
-    /// No primary flag yet. FATL as it stood tells an orphan that may not
-    /// request; an orphan of SWW alone does.
+    /// No primary flag yet.
     fn first_entry(unit: &mut Unit, cycle: &Cycle, flags: u8) {
-        let silent = unit.vtr & violation::FATL != 0;
         unit.vtr |= flags;
         unit.vsn = cycle.entry();
         unit.voff = cycle.offset;
         unit.bcsr = cycle.bus_status();
         unit.own = true;
-        if !silent {
-            Self::trap(unit);
-        }
+        Self::trap(unit);
     }
 
     /// The instruction that made the first entry: flags, nothing else.

@@ -4,7 +4,7 @@
 use crate::commands::Commands;
 use crate::cycle::{Answer, Cycle, Kind};
 use crate::memory::Memory;
-use crate::unit::{mode, Unit};
+use crate::unit::{mode, violation, Unit};
 
 #[derive(Clone, Copy, Debug, PartialEq, Eq)]
 pub enum Class {
@@ -59,7 +59,14 @@ pub trait Step: Commands + Memory {
     }
 
     fn damaged(unit: &Unit) -> bool {
-        unit.sar > 63 || unit.vsn > 63 || unit.isn > 63 || unit.bcsr > 63 || unit.dscr > 3
+        let above = unit.sar > 63 || unit.vsn > 63 || unit.isn > 63 || unit.bcsr > 63;
+        above || unit.dscr > 3 || Self::orphan(unit)
+    }
+
+    /// SWW or FATL or both standing without a primary flag (ticket 11). No run
+    /// from power-on gets there: what takes a primary flag takes all eight.
+    fn orphan(unit: &Unit) -> bool {
+        unit.vtr != 0 && unit.vtr & violation::PRIMARY == 0
     }
 
     fn out_of_range(cycle: &Cycle) -> bool {

@@ -4,6 +4,7 @@
 use witness::commands::code::{CLEAR_FATL, CLEAR_SWW, CLEAR_VTR, RESET, SET_CPUI, SET_DMAI};
 use witness::cycle::{Answer, Cycle};
 use witness::generate::random::Random;
+use witness::generate::steps::vtr;
 use witness::step::Step;
 use witness::unit::{Descriptor, Unit};
 use witness::Document01;
@@ -25,7 +26,7 @@ fn undamaged(random: &mut Random) -> Unit {
         mr: random.byte(),
         sar: random.byte() % 64,
         dscr: random.byte() % 4,
-        vtr: random.byte(),
+        vtr: vtr(random),
         vsn: random.byte() % 64,
         voff: random.byte(),
         bcsr: random.byte() % 64,

@@ -28,6 +28,20 @@ fn no_line_of_a_generated_script_is_wrong() {
     assert!(!text.lines().any(|line| line == "?"));
 }
 
+#[test]
+fn a_case_has_a_unit_of_its_kind() {
+    for case in steps::cases(7, 600) {
+        let text = script::run(&case, Document01::step);
+        let (head, answers) = text.split_once('\n').expect("a case has a head");
+        let mut damaged = answers.lines().map(|answer| answer.starts_with("X2 "));
+        match head.rsplit(' ').next() {
+            Some("orphan" | "damaged") => assert!(damaged.all(|damaged| damaged), "{head}"),
+            Some("any") => (),
+            _ => assert!(!damaged.any(|damaged| damaged), "{head}"),
+        }
+    }
+}
+
 /// The rows that the coverage table holds to be out of reach rest on this.
 #[test]
 fn from_power_on_no_orphan_and_no_damage() {

@@ -1,8 +1,9 @@
 //! Refusals 1 to 4 of a cycle: their conditions, their order, their answer.
 
+use witness::commands::code::CLEAR_VTR;
 use witness::cycle::{Answer, Cycle, Kind};
 use witness::step::Step;
-use witness::unit::Unit;
+use witness::unit::{violation, Unit};
 use witness::Document01;
 
 /// Steps a cycle that must be refused, with the request down and up.
@@ -29,12 +30,15 @@ fn command(code: u8, read: bool) -> Cycle {
 }
 
 fn damaged() -> Vec<Unit> {
-    let damage: [fn(&mut Unit); 5] = [
+    let damage: [fn(&mut Unit); 8] = [
         |unit| unit.sar = 64,
         |unit| unit.vsn = 64,
         |unit| unit.isn = 0xFF,
         |unit| unit.bcsr = 64,
         |unit| unit.dscr = 4,
+        |unit| unit.vtr = violation::SWW,
+        |unit| unit.vtr = violation::FATL,
+        |unit| unit.vtr = violation::SWW | violation::FATL,
     ];
     let broken = damage.iter().map(|damage| {
         let mut unit = Unit::power_on();
@@ -82,6 +86,55 @@ fn damage_is_2_and_comes_first() {
         }
         refused(2, &unit, command(0x12, true));
         refused(2, &unit, command(0x02, false));
+    }
+}
+
+/// Any VTR and any notes in a unit that translates.
+fn standing(vtr: u8, notes: u8) -> Unit {
+    Unit {
+        mr: 0xC0,
+        vtr,
+        request: notes & 1 != 0,
+        awaits: notes & 2 != 0,
+        own: notes & 4 != 0,
+        hold: notes & 8 != 0,
+        ..Unit::power_on()
+    }
+}
+
+#[test]
+fn exactly_the_orphans_of_all_vtrs_are_damaged() {
+    let memory = Cycle {
+        status: 0x8,
+        offset: 1,
+        ..Cycle::default()
+    };
+    let reset = Cycle {
+        reset: true,
+        ..Cycle::default()
+    };
+    let beyond = Cycle {
+        segment: 128,
+        ..memory
+    };
+    let cycles = [
+        (memory, Kind::Translated),
+        (reset, Kind::Reset),
+        (command(CLEAR_VTR, false), Kind::Command),
+        (beyond, Kind::Refused(1)),
+    ];
+    for (vtr, notes) in (0..=0xFF).flat_map(|vtr| (0..16).map(move |notes| (vtr, notes))) {
+        let before = standing(vtr, notes);
+        for (cycle, kind) in cycles {
+            let mut unit = before.clone();
+            let answer = Document01::step(&mut unit, &cycle);
+            if matches!(vtr, 0x40 | 0x80 | 0xC0) {
+                assert_eq!(answer, Answer::quiet(Kind::Refused(2), before.request));
+                assert_eq!(unit, before);
+            } else {
+                assert_eq!(answer.kind, kind, "{before:?}");
+            }
+        }
     }
 }
 

@@ -31,10 +31,13 @@ fn a_command_shows_the_descriptor_at_sar_before_it() {
 }
 
 #[test]
-fn an_orphan_with_fatl_records_without_a_request() {
-    let script = "U C0 00 00 80 00 00 00 00 00 00\nC 08 00 02 01 00\n\
-                  U C0 00 00 40 00 00 00 00 00 00\nC 08 00 02 01 00\n";
-    let text = "T 0001 1 0 -- | C0 00 00 84 02 01 08 00 00 0C | 02 0000 00 00\n\
-                T 0001 1 1 -- | C0 00 00 44 02 01 08 00 00 0F | 02 0000 00 00\n";
+fn an_orphan_is_refused_and_stays_and_a_primary_flag_makes_none() {
+    let script = "U C0 00 00 80 00 00 00 00 00 00\nC 08 00 02 01 00\nC 00 18 02 00 00\n\
+                  U C0 00 00 40 00 00 00 00 00 0F\nC 03 08 00 11 00\n\
+                  U C0 00 00 81 00 00 00 00 00 00\nC 08 00 02 01 00\n";
+    let text = "X2 ---- 0 0 -- | C0 00 00 80 00 00 00 00 00 00 | 02 0000 00 00\n\
+                X2 ---- 0 0 -- | C0 00 00 80 00 00 00 00 00 00 | 02 0000 00 00\n\
+                X2 ---- 0 1 -- | C0 00 00 40 00 00 00 00 00 0F | 00 0000 00 00\n\
+                T 0001 1 0 -- | C0 00 00 81 00 00 00 00 00 08 | 02 0000 00 00\n";
     assert_eq!(run(script), text);
 }

@@ -10,7 +10,14 @@ use super::{Met, Row};
 pub fn rows() -> Vec<Row> {
     let mut rows = vec![
         Row::new("X1", Met::Never("a record holds no such number")),
-        Row::new("X2", Met::Never("no cycle from power-on damages a unit")),
+        Row::new(
+            "X2: a register above its bound",
+            Met::Never("every store is within it"),
+        ),
+        Row::new(
+            "X2: orphan",
+            Met::Never("what takes a primary flag takes all"),
+        ),
     ];
     rows.extend(kinds());
     rows.extend(resets());

@@ -3,7 +3,7 @@
 use crate::unit::attribute;
 
 use super::event::Event;
-use super::{Met, Row};
+use super::Row;
 
 pub fn rows() -> Vec<Row> {
     let mut rows = first();
@@ -42,14 +42,6 @@ fn first() -> Vec<Row> {
         Row::record("first: hold stands, VTR cleared", move |e| {
             first(e) && e.held
         }),
-        Row::new(
-            "first: orphan, SWW alone",
-            Met::Never("clear VTR takes all flags"),
-        ),
-        Row::new(
-            "first: orphan with FATL",
-            Met::Never("clear VTR takes all flags"),
-        ),
     ]
 }
 

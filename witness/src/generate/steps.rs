@@ -2,6 +2,7 @@
 
 use std::fmt::Write;
 
+use crate::commands::code;
 use crate::cycle::Cycle;
 use crate::script::Registers;
 use crate::unit::{attribute, mode, violation, Descriptor, Unit};
@@ -10,7 +11,9 @@ use super::bus::{violates, warns, warns_at_system_stack, Bus};
 use super::random::Random;
 use super::story::story;
 
-const KINDS: [&str; 6] = ["sane", "orphan", "damaged", "range", "any", "story"];
+/// A kind stands here as often as it should come. Two are damaged units, which
+/// go nowhere, so sane ones come twice.
+const KINDS: [&str; 7] = ["sane", "orphan", "sane", "damaged", "range", "any", "story"];
 
 /// A script of so many cases, each with a unit of its own.
 pub fn script(seed: u64, count: usize) -> String {
@@ -40,10 +43,12 @@ fn scene(mut random: Random, kind: &str) -> String {
     };
     let start = bus.unit.clone();
     for _ in 0..bus.random.between(1, 8) {
-        let mut cycle = cycle(&mut bus);
-        if matches!(kind, "range" | "any") {
-            cycle = beyond(&mut bus, cycle);
-        }
+        let cycle = cycle(&mut bus);
+        let cycle = match kind {
+            "orphan" => mending(&mut bus, cycle),
+            "range" | "any" => beyond(&mut bus, cycle),
+            _ => cycle,
+        };
         bus.push(cycle);
     }
     lines(&start, &hot, &bus.cycles)
@@ -96,7 +101,7 @@ fn table(bus: &mut Bus) -> Vec<u8> {
     hot
 }
 
-/// Registers within their bounds and any notes, mostly translating.
+/// Registers within their bounds, no orphan, any notes, mostly translating.
 fn sane(bus: &mut Bus) -> Unit {
     let range = if bus.segments[0] >= 64 { mode::URS } else { 0 };
     let random = &mut bus.random;
@@ -111,7 +116,7 @@ fn sane(bus: &mut Bus) -> Unit {
         },
         sar: random.byte() % 64,
         dscr: random.byte() % 4,
-        vtr: if empty { 0 } else { random.byte() },
+        vtr: if empty { 0 } else { vtr(random) },
         vsn: random.byte() % 64,
         voff: random.byte(),
         bcsr: random.byte() % 64,
@@ -122,6 +127,14 @@ fn sane(bus: &mut Bus) -> Unit {
         own,
         hold,
         ..bus.unit.clone()
+    }
+}
+
+/// Any VTR of an undamaged unit: none stands where an orphan is drawn.
+pub fn vtr(random: &mut Random) -> u8 {
+    match random.byte() {
+        vtr if vtr & violation::PRIMARY == 0 => 0,
+        vtr => vtr,
     }
 }
 
@@ -207,6 +220,34 @@ fn cycle(bus: &mut Bus) -> Cycle {
             ..memory
         },
         _ => memory,
+    }
+}
+
+/// The same, or what would clear an orphan's flags if it were obeyed, or a
+/// cycle that an undamaged unit refuses as well.
+fn mending(bus: &mut Bus, cycle: Cycle) -> Cycle {
+    let clears = [
+        code::RESET,
+        code::CLEAR_VTR,
+        code::CLEAR_SWW,
+        code::CLEAR_FATL,
+    ];
+    match bus.random.below(6) {
+        0 => Cycle {
+            reset: true,
+            ..cycle
+        },
+        1 => Cycle {
+            status: 0x3,
+            read: false,
+            dma: false,
+            select: true,
+            offset: bus.random.pick(&clears),
+            reset: false,
+            ..cycle
+        },
+        2 => beyond(bus, cycle),
+        _ => cycle,
     }
 }
 

@@ -7,11 +7,17 @@ use witness::unit::{attribute, mode, violation, Descriptor, Unit};
 use witness::Document01;
 
 /// Clear VTR with something more; other writes as the paper has them.
-fn clear_vtr_and(unit: &mut Unit, code: u8, data: u8, more: fn(&mut Unit)) {
+fn clear_vtr_and(unit: &mut Unit, code: u8, data: u8, more: impl Fn(&mut Unit)) {
     Document01::write_register(unit, code, data);
     if code == code::CLEAR_VTR {
         more(unit);
     }
+}
+
+/// Clear VTR that leaves some flags.
+fn clear_vtr_but(unit: &mut Unit, code: u8, data: u8, flags: u8) {
+    let kept = unit.vtr & flags;
+    clear_vtr_and(unit, code, data, |unit| unit.vtr = kept);
 }
 
 wrong! { Commands:
@@ -143,6 +149,13 @@ wrong! { Commands:
             unit.vtr = vtr;
         }
     }
+    SoftwareResetLeavesOrphan "software reset leaves SWW and FATL" {
+        fn software_reset(unit: &mut Unit) {
+            let kept = unit.vtr & !violation::PRIMARY;
+            Document01::software_reset(unit);
+            unit.vtr = kept;
+        }
+    }
     SoftwareResetLeavesDscr "software reset leaves DSCR" {
         fn software_reset(unit: &mut Unit) {
             let dscr = unit.dscr;
@@ -192,11 +205,17 @@ wrong! { Commands:
     }
     ClearVtrPrimary "clear VTR leaves SWW and FATL" {
         fn write_register(unit: &mut Unit, code: u8, data: u8) {
-            let kept = unit.vtr & !violation::PRIMARY;
-            Document01::write_register(unit, code, data);
-            if code == code::CLEAR_VTR {
-                unit.vtr = kept;
-            }
+            clear_vtr_but(unit, code, data, !violation::PRIMARY);
+        }
+    }
+    ClearVtrLeavesSww "clear VTR leaves SWW" {
+        fn write_register(unit: &mut Unit, code: u8, data: u8) {
+            clear_vtr_but(unit, code, data, violation::SWW);
+        }
+    }
+    ClearVtrLeavesFatl "clear VTR leaves FATL" {
+        fn write_register(unit: &mut Unit, code: u8, data: u8) {
+            clear_vtr_but(unit, code, data, violation::FATL);
         }
     }
     ClearSwwPww "clear SWW clears PWW too" {

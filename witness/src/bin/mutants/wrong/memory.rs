@@ -348,7 +348,8 @@ wrong! { Memory:
             answer
         }
     }
-    InstructionNoPrimary "ISN is stored while no primary flag stands" {
+    InstructionNoPrimary "ISN is stored while no primary flag stands"
+    same "an undamaged unit without a primary flag has VTR zero" {
         fn keeps_instruction(unit: &Unit, cycle: &Cycle, finding: Finding) -> bool {
             let vtr = unit.vtr & violation::PRIMARY;
             Document01::keeps_instruction(&Unit { vtr, ..unit.clone() }, cycle, finding)

@@ -10,10 +10,6 @@ fn primary(unit: &Unit) -> bool {
     unit.vtr & violation::PRIMARY != 0
 }
 
-fn orphan(unit: &Unit) -> bool {
-    unit.vtr != 0 && !primary(unit)
-}
-
 /// Neither an own entry nor a first one.
 fn later(unit: &Unit) -> bool {
     primary(unit) && !unit.own
@@ -149,82 +145,23 @@ wrong! { Recording:
             }
         }
     }
-    FirstReplaces "a first entry replaces SWW and FATL" {
+    FirstReplaces "a first entry replaces SWW and FATL"
+    same "in an undamaged unit neither stands without a primary flag" {
         fn first_entry(unit: &mut Unit, cycle: &Cycle, flags: u8) {
             Document01::first_entry(unit, cycle, flags);
             unit.vtr = flags;
         }
     }
-    OrphanLater "an orphan's next entry takes the rows of a standing flag" {
-        fn record(unit: &mut Unit, cycle: &Cycle, finding: Finding) {
-            if orphan(unit) && finding != Finding::Clean {
-                let second = finding == Finding::Warning && Document01::system_stack(cycle);
-                match second {
-                    true => Document01::second_warning(unit),
-                    false => Document01::fatal(unit),
-                }
-                unit.hold |= finding != Finding::Warning;
-            } else {
-                Document01::record(unit, cycle, finding);
-            }
-        }
-    }
-    OrphanRequests "an orphan with FATL requests" {
+    FirstFatal "a first entry sets FATL too" {
         fn first_entry(unit: &mut Unit, cycle: &Cycle, flags: u8) {
             Document01::first_entry(unit, cycle, flags);
-            Document01::trap(unit);
+            unit.vtr |= violation::FATL;
         }
     }
-    OrphanSilent "an orphan of SWW alone does not request" {
+    FirstSecond "a system stack warning gives SWW as the first entry too" {
         fn first_entry(unit: &mut Unit, cycle: &Cycle, flags: u8) {
-            let (orphan, request, awaits) = (orphan(unit), unit.request, unit.awaits);
-            Document01::first_entry(unit, cycle, flags);
-            if orphan {
-                (unit.request, unit.awaits) = (request, awaits);
-            }
-        }
-    }
-    OrphanClears "an orphan with FATL clears request and await" {
-        fn first_entry(unit: &mut Unit, cycle: &Cycle, flags: u8) {
-            let fatal = unit.vtr & violation::FATL != 0;
-            Document01::first_entry(unit, cycle, flags);
-            if fatal {
-                (unit.request, unit.awaits) = (false, false);
-            }
-        }
-    }
-    OrphanAwaits "an orphan with FATL sets await without a request" {
-        fn first_entry(unit: &mut Unit, cycle: &Cycle, flags: u8) {
-            Document01::first_entry(unit, cycle, flags);
-            unit.awaits = true;
-        }
-    }
-    OrphanSecond "a system stack warning on an orphan gives SWW" {
-        fn first_entry(unit: &mut Unit, cycle: &Cycle, flags: u8) {
-            let second = orphan(unit)
-                && flags == violation::PWW
-                && Document01::system_stack(cycle);
+            let second = flags == violation::PWW && Document01::system_stack(cycle);
             Document01::first_entry(unit, cycle, if second { violation::SWW } else { flags });
-        }
-    }
-    OrphanNoOwn "an orphan's first entry does not set own" {
-        fn first_entry(unit: &mut Unit, cycle: &Cycle, flags: u8) {
-            let (orphan, own) = (orphan(unit), unit.own);
-            Document01::first_entry(unit, cycle, flags);
-            if orphan {
-                unit.own = own;
-            }
-        }
-    }
-    OrphanJudgedAfter "an orphan's FATL is judged after the cycle"
-    same "the first row adds no FATL, so it stands after exactly if it stood before" {
-        fn first_entry(unit: &mut Unit, cycle: &Cycle, flags: u8) {
-            let (request, awaits) = (unit.request, unit.awaits);
-            Document01::first_entry(unit, cycle, flags);
-            match unit.vtr & violation::FATL {
-                0 => Document01::trap(unit),
-                _ => (unit.request, unit.awaits) = (request, awaits),
-            }
         }
     }
     SystemStackB "a warning at %B in system mode is of the system stack too" {

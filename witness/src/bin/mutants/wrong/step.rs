@@ -2,9 +2,11 @@
 //! acknowledge.
 
 use super::wrong;
+use witness::commands::{code, Commands};
 use witness::cycle::{Answer, Cycle, Kind};
+use witness::generate::bus::{violates, warns};
 use witness::step::{Class, Step};
-use witness::unit::{mode, Descriptor, Unit};
+use witness::unit::{mode, violation, Descriptor, Unit};
 use witness::Document01;
 
 /// The right class, asked of a cycle changed by a wrong reading.
@@ -17,6 +19,24 @@ fn step_if_whole(unit: &mut Unit, cycle: &Cycle, number: u8) -> Answer {
     match answer.kind {
         Kind::Refused(2) => Answer::quiet(Kind::Refused(number), unit.request),
         _ => answer,
+    }
+}
+
+/// Refusals 3 and 4, whatever the unit and the cycle's numbers.
+fn command_refusal(cycle: &Cycle) -> Option<u8> {
+    let command = class(*cycle) == Class::Command;
+    Document01::command_refusal(cycle).filter(|_| command)
+}
+
+fn writes(cycle: &Cycle, codes: &[u8]) -> bool {
+    class(*cycle) == Class::Command && cycle.write() && codes.contains(&cycle.offset)
+}
+
+/// The right refusal, but for an orphan where its damage is overlooked.
+fn refusal(unit: &Unit, cycle: &Cycle, overlooked: bool) -> Option<u8> {
+    match overlooked {
+        true => OrphanWhole::refusal(unit, cycle),
+        false => Document01::refusal(unit, cycle),
     }
 }
 
@@ -42,9 +62,7 @@ wrong! { Step:
     }
     CommandFirst "refusals 3 and 4 are judged before 2 and 1" {
         fn step(unit: &mut Unit, cycle: &Cycle) -> Answer {
-            use witness::commands::Commands;
-            let command = class(*cycle) == Class::Command;
-            match Document01::command_refusal(cycle).filter(|_| command) {
+            match command_refusal(cycle) {
                 Some(number) => Answer::quiet(Kind::Refused(number), unit.request),
                 None => Document01::step(unit, cycle),
             }
@@ -78,6 +96,125 @@ wrong! { Step:
     NarrowSar "SAR 63 is damage" {
         fn damaged(unit: &Unit) -> bool {
             unit.sar > 62 || Document01::damaged(unit)
+        }
+    }
+    OrphanWhole "an orphan is no damage: the first row takes it" {
+        fn orphan(_unit: &Unit) -> bool {
+            false
+        }
+    }
+    OrphanSilent "an orphan is no damage, and its first entry does not request while FATL stands" {
+        fn step(unit: &mut Unit, cycle: &Cycle) -> Answer {
+            let silent = Document01::orphan(unit) && unit.vtr & violation::FATL != 0;
+            let (request, awaits) = (unit.request, unit.awaits);
+            let answer = OrphanWhole::step(unit, cycle);
+            if !silent || unit.vtr & violation::PRIMARY == 0 {
+                return answer;
+            }
+            (unit.request, unit.awaits) = (request, awaits);
+            Answer { trap: request, ..answer }
+        }
+    }
+    OrphanOfFatl "only FATL alone makes an orphan" {
+        fn orphan(unit: &Unit) -> bool {
+            unit.vtr == violation::FATL
+        }
+    }
+    OrphanOfSww "only SWW alone makes an orphan" {
+        fn orphan(unit: &Unit) -> bool {
+            unit.vtr == violation::SWW
+        }
+    }
+    OrphanOfBoth "only SWW and FATL together make an orphan" {
+        fn orphan(unit: &Unit) -> bool {
+            unit.vtr == violation::SWW | violation::FATL
+        }
+    }
+    OrphanOfEither "SWW or FATL makes an orphan, but not both" {
+        fn orphan(unit: &Unit) -> bool {
+            matches!(unit.vtr, violation::SWW | violation::FATL)
+        }
+    }
+    OrphanBeside "SWW or FATL is damage beside a primary flag too" {
+        fn orphan(unit: &Unit) -> bool {
+            unit.vtr & !violation::PRIMARY != 0
+        }
+    }
+    OrphanPww "SWW or FATL is damage beside PWW alone" {
+        fn orphan(unit: &Unit) -> bool {
+            Document01::orphan(&Unit { vtr: unit.vtr & !violation::PWW, ..unit.clone() })
+        }
+    }
+    OrphanZero "every VTR without a primary flag is damage, zero too" {
+        fn orphan(unit: &Unit) -> bool {
+            unit.vtr & violation::PRIMARY == 0
+        }
+    }
+    OrphanReset "the reset line mends an orphan" {
+        fn refusal(unit: &Unit, cycle: &Cycle) -> Option<u8> {
+            refusal(unit, cycle, cycle.reset)
+        }
+    }
+    OrphanSoftwareReset "a software reset mends an orphan" {
+        fn refusal(unit: &Unit, cycle: &Cycle) -> Option<u8> {
+            refusal(unit, cycle, writes(cycle, &[code::RESET]))
+        }
+    }
+    OrphanClearVtr "clear VTR mends an orphan" {
+        fn refusal(unit: &Unit, cycle: &Cycle) -> Option<u8> {
+            refusal(unit, cycle, writes(cycle, &[code::CLEAR_VTR]))
+        }
+    }
+    OrphanClearFlag "clear SWW and clear FATL are obeyed by an orphan" {
+        fn refusal(unit: &Unit, cycle: &Cycle) -> Option<u8> {
+            refusal(unit, cycle, writes(cycle, &[code::CLEAR_SWW, code::CLEAR_FATL]))
+        }
+    }
+    OrphanAcknowledges "an orphan acknowledges" {
+        fn refusal(unit: &Unit, cycle: &Cycle) -> Option<u8> {
+            refusal(unit, cycle, class(*cycle) == Class::Acknowledge)
+        }
+    }
+    OrphanReads "an orphan's registers can be read" {
+        fn refusal(unit: &Unit, cycle: &Cycle) -> Option<u8> {
+            refusal(unit, cycle, class(*cycle) == Class::Command && cycle.read)
+        }
+    }
+    OrphanDma "an orphan translates for DMA" {
+        fn refusal(unit: &Unit, cycle: &Cycle) -> Option<u8> {
+            refusal(unit, cycle, class(*cycle) == Class::Memory && cycle.dma)
+        }
+    }
+    OrphanUnrecorded "an orphan is refused only where it would record" {
+        fn refusal(unit: &Unit, cycle: &Cycle) -> Option<u8> {
+            let memory = class(*cycle) == Class::Memory;
+            let records = memory && (violates(unit, cycle) || warns(unit, cycle));
+            refusal(unit, cycle, !records)
+        }
+    }
+    OrphanRangeFirst "refusal 1 comes before an orphan's 2" {
+        fn refusal(unit: &Unit, cycle: &Cycle) -> Option<u8> {
+            refusal(unit, cycle, Document01::out_of_range(cycle))
+        }
+    }
+    OrphanCommandFirst "refusals 3 and 4 come before an orphan's 2" {
+        fn refusal(unit: &Unit, cycle: &Cycle) -> Option<u8> {
+            refusal(unit, cycle, command_refusal(cycle).is_some())
+        }
+    }
+    OrphanDropsTrap "an orphan's refusal shows the trap line off" {
+        fn step(unit: &mut Unit, cycle: &Cycle) -> Answer {
+            let answer = Document01::step(unit, cycle);
+            Answer { trap: answer.trap && !Document01::orphan(unit), ..answer }
+        }
+    }
+    OrphanCleared "an orphan's refusal clears the VTR" {
+        fn step(unit: &mut Unit, cycle: &Cycle) -> Answer {
+            let answer = Document01::step(unit, cycle);
+            if Document01::orphan(unit) {
+                unit.vtr = 0;
+            }
+            answer
         }
     }
     ResetAnyRange "a reset cycle is never refused 1" {
@@ -226,6 +363,13 @@ wrong! { Step:
             let vtr = unit.vtr;
             Document01::reset(unit, cycle);
             unit.vtr = vtr;
+        }
+    }
+    ResetLeavesOrphan "a reset leaves SWW and FATL" {
+        fn reset(unit: &mut Unit, cycle: &Cycle) {
+            let kept = unit.vtr & !violation::PRIMARY;
+            Document01::reset(unit, cycle);
+            unit.vtr = kept;
         }
     }
     ResetLeavesDscr "a reset leaves DSCR" {
