@@ -10,7 +10,7 @@ use lib.ListN.{length, getD, length-append}
 use lib.Seq.{sets, set-getD}
 use borrow.Author.Tests.{eqb-true}
 use Rattle.rules.specs.declared.Descriptor.{Descriptor}
-use Rattle.runs.proofs.Tests.{each, at}
+use Rattle.runs.proofs.Tests.{at}
 use Rattle.stores.proofs.Laws.{sets-append}
 use Rattle.snapshot.specs.Snapshot.{descriptorIn, tableIn, notesIn, registersIn, unitIn}
 use Rattle.snapshot.specs.Snapshot.{descriptorBytes, tableBytes, notesByte, registerBytes, bytesOf}

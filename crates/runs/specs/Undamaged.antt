@@ -14,7 +14,7 @@ use Rattle.rules.specs.declared.Registers.{Registers}
 use Rattle.rules.specs.declared.Unit.{Unit}
 use Rattle.runs.specs.Sequences.{Every}
 
--- the ranges of "What the unit is given, what it keeps", of the registers that 2 looks at
+-- the ranges of "What the unit is given, what it keeps" that 2 holds registers to
 pub record Bounded (r : Registers) : Type 0 where
   pub sar : r .control .sar ≤ 63
   pub vsn : r .faults .vsn ≤ 63
