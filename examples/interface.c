@@ -25,8 +25,8 @@ struct cycle {
     bool read, normal, reset;
 };
 
-/* a read of the VTR */
-static const struct cycle plain = {3, 0, 0x02, 0, true, false, false};
+/* a read of the VTR; a cycle out of range */
+static const struct cycle plain = {3, 0, 0x02, 0, true, false, false}, outside = {16, 128, 0x12, 0, true, false, false};
 
 static uint8_t call(uint8_t *unit, size_t unit_length, uint8_t *answer, size_t answer_length, struct cycle c)
 {
@@ -79,7 +79,7 @@ static void layout(void)
     }
 }
 
-/* Bytes of all kinds in the places where a unit takes any byte. */
+/* Bytes of all kinds in the places where a unit takes any byte; the VTR gets %7A, which is no orphan. */
 static void fill(uint8_t *bytes, size_t length)
 {
     size_t i;
@@ -149,7 +149,6 @@ static void damaged_units(void)
     static const struct { int at, least; } bounds[] = {
         {DISTANTARM_SAR, 64}, {DISTANTARM_VSN, 64}, {DISTANTARM_ISN, 64}, {DISTANTARM_BCSR, 64}, {DISTANTARM_DSCR, 4}, {DISTANTARM_NOTES, 16},
     };
-    const struct cycle outside = {16, 128, 0x12, 0, true, false, false};
     uint8_t unit[UNIT + PAST];
     size_t i;
     int value, request;
@@ -168,7 +167,7 @@ static void damaged_units(void)
 /* Refusal 2 for the VTR: for exactly those values that have SWW or FATL and no primary flag, %40, %80 and %C0, in a reset too. */
 static void orphans(void)
 {
-    const struct cycle outside = {16, 128, 0x12, 0, true, false, false}, reset = {0, 0, 0, 0, true, false, true};
+    const struct cycle reset = {0, 0, 0, 0, true, false, true};
     uint8_t unit[UNIT + PAST];
     int vtr, notes;
 

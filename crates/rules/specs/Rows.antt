@@ -154,11 +154,11 @@ isSlv s = (sup s, 1) ∷ (vtr s, 4) ∷ []
 abbrev pub isWarning : Stepped → List (ℕ × ℕ)
 isWarning s = (sup s, 0) ∷ (vtr s, 32) ∷ []
 
--- seen: refused with 2, the trap line and the VTR as they stood
+-- seen: refused with 2, the VTR as it stood and the trap line on
 abbrev pub isDamaged : (standing : ℕ) → Stepped → List (ℕ × ℕ)
 isDamaged v s = (numberOf (s .answer .kind), 2) ∷ (vtr s, v) ∷ (trap s, 1) ∷ []
 
--- seen: a command, and the VTR that it leaves
+-- seen: not refused, and the VTR that is left
 abbrev pub leaves : (left : ℕ) → Stepped → List (ℕ × ℕ)
 leaves v s = (numberOf (s .answer .kind), 0) ∷ (vtr s, v) ∷ []
 
@@ -235,8 +235,8 @@ stacks =
     (λ s. (vtr s, 96) ∷ (trap s, 0) ∷ []) ∷
     []
 
--- Ticket 11. SWW alone, FATL alone, both: "such a VTR counts as damaged", and a reset does not mend it. A clear command on PWW beside both
--- leaves a primary flag or nothing.
+-- Ticket 11. SWW alone, FATL alone, both: "such a VTR counts as damaged", and neither a reset nor clear VTR mends it. A clear command on
+-- PWW beside both leaves a primary flag or nothing.
 abbrev pub orphans : List Row
 orphans =
     row (unitAt 192 0 0 64 true none) (reads 0) (isDamaged 64) ∷

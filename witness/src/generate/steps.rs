@@ -130,7 +130,7 @@ fn sane(bus: &mut Bus) -> Unit {
     }
 }
 
-/// Any VTR of an undamaged unit: none stands where an orphan is drawn.
+/// Any VTR of an undamaged unit: zero where an orphan is drawn.
 pub fn vtr(random: &mut Random) -> u8 {
     match random.byte() {
         vtr if vtr & violation::PRIMARY == 0 => 0,
