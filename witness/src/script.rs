@@ -92,7 +92,8 @@ impl fmt::Display for Descriptor {
     }
 }
 
-fn parse_unit(line: &str) -> Option<Unit> {
+/// The unit of a `U` line.
+pub fn parse_unit(line: &str) -> Option<Unit> {
     let [mr, sar, dscr, vtr, vsn, voff, bcsr, isn, ioff, notes] = bytes(line.strip_prefix("U ")?)?;
     Some(Unit {
         mr,

@@ -2,6 +2,7 @@
 
 use witness::commands::code::CLEAR_VTR;
 use witness::cycle::{Answer, Cycle, Kind};
+use witness::script::parse_unit;
 use witness::step::Step;
 use witness::unit::{violation, Unit};
 use witness::Document01;
@@ -91,15 +92,8 @@ fn damage_is_2_and_comes_first() {
 
 /// Any VTR and any notes in a unit that translates.
 fn standing(vtr: u8, notes: u8) -> Unit {
-    Unit {
-        mr: 0xC0,
-        vtr,
-        request: notes & 1 != 0,
-        awaits: notes & 2 != 0,
-        own: notes & 4 != 0,
-        hold: notes & 8 != 0,
-        ..Unit::power_on()
-    }
+    let line = format!("U C0 00 00 {vtr:02X} 00 00 00 00 00 {notes:02X}");
+    parse_unit(&line).expect("a unit's line")
 }
 
 #[test]

@@ -1,6 +1,6 @@
 -- No cycle makes an orphan; every cycle on one is refused with 2; and what rules say of orphans is not seen.
 -- Assumes nothing.
-use mathlib.Core.Path.{_≡_, refl, sym, _∙_, ap}
+use mathlib.Core.Path.{_≡_, refl, _∙_, ap}
 use mathlib.Core.Bool.{Bool, true, false, _&&_, _||_, Bool·beq, or-true, true≢false}
 use mathlib.Core.List.{List, [], _∷_}
 use Prim.Native.Nat.{ℕ, _-_, _%_, _<_}
@@ -86,12 +86,14 @@ orphan-refused u c h = rw (is-damaged u h)
 
 -- What is not seen
 
+-- an orphan, or the two tests alike: computed of each byte
+abbrev alike : (vtr : ℕ) → Bool
+alike v = orphan v || Bool·beq (lacks v PRIMARY) (eqb v 0)
+
 pub zero-exactly : ZeroExactly
-zero-exactly v small h = same _ _ (sym (ap (λ (o : Bool). o || Bool·beq (lacks v PRIMARY) (eqb v 0)) h) ∙ byte v (omega arith))
-  where
-    -- computed of each byte
-    byte : (v : ℕ) → v < 256 → (orphan v || Bool·beq (lacks v PRIMARY) (eqb v 0)) ≡ true
-    byte = at 256 (λ v. orphan v || Bool·beq (lacks v PRIMARY) (eqb v 0)) refl
+zero-exactly v small h =
+    let e : alike v ≡ true = at 256 alike refl v (omega arith) in
+    same _ _ (rw h at e)
 
 pub orphans-unseen : OrphansUnseen
 unfolding answers
