@@ -4,9 +4,11 @@ pub mod Bits
 pub mod Tables
 pub mod Codes
 pub mod Purposes
+pub mod Looks
 pub mod Ways
 pub mod Runs
 pub mod Effects
+pub mod Examples
 -- what is claimed in specs/, one file for each
 pub mod Orphans
 pub mod Undamaged
@@ -16,6 +18,8 @@ pub mod Notes
 pub mod Wider
 pub mod Pairs
 pub mod Tighter
+pub mod Others
 pub mod Needed
+pub mod Conditions
 pub mod Apart
 pub mod Exchange

@@ -7,8 +7,9 @@ use Prim.Native.Nat.{ℕ, zero, suc, _<_}
 use lib.ListN.{getD, replicate}
 use Rattle.rules.specs.Masks.{RD, CPUI, DIRW}
 use lib.Dec.{lit≤}
-use Rattle.rules.specs.PowerOn.{none, quiet, powerOn}
+use Rattle.rules.specs.PowerOn.{none}
 use Rattle.rules.specs.Refusals.{damaged, outOfRange}
+use Rattle.rules.specs.Rows.{segment}
 use Rattle.rules.specs.Runs.{answers}
 use Rattle.rules.specs.Status.{purposeOf, byStatus}
 use Rattle.rules.specs.Checks.{rightsOf, outOfLength, warns}
@@ -25,42 +26,8 @@ use Rattle.rules.specs.declared.Unit.{Unit}
 use Rattle.runs.specs.Cycles.{descriptorWrite}
 use Rattle.runs.specs.Tighter.{Wider, Loosened, before, StopNeeded, WritesExcluded}
 use Rattle.runs.specs.Undamaged.{Undamaged}
+use Rattle.runs.proofs.Examples.{unit, cycle, unit-undamaged}
 use Rattle.runs.proofs.Wider.{wider-refl}
-
--- Units and cycles
-
--- the descriptors of segments 0 to 2, MR %C0 (MSEN and TRNS set), all else as at power-on
-abbrev unit : (x y z : Descriptor) → Unit
-unit x y z = record {
-  table = x ∷ y ∷ z ∷ replicate 61 none;
-  registers = record {
-    control = record { mr = 0xC0; sar = 0; dscr = 0 };
-    faults = powerOn .registers .faults;
-    fetched = powerOn .registers .fetched;
-    notes = quiet;
-  };
-}
-
-abbrev descriptor : (base limit attributes : ℕ) → Descriptor
-descriptor base limit attributes = record { base = base; limit = limit; attributes = attributes }
-
--- a CPU cycle in system mode
-abbrev cycle : (status : ℕ) → (read select : Bool) → (segment offset byte : ℕ) → Cycle
-cycle status read select segment offset byte = record {
-  status = status;
-  read = read;
-  normal = false;
-  dma = false;
-  select = select;
-  segment = segment;
-  offset = offset;
-  byte = byte;
-  reset = false;
-}
-
-unit-undamaged : (x y z : Descriptor) → Undamaged (unit x y z)
-unfolding damaged
-unit-undamaged x y z = record { size = refl; sound = refl }
 
 unit-loosened : (x y x' y' z : Descriptor) → Wider x x' → Wider y y' → Loosened (unit x y z) (unit x' y' z)
 unit-loosened x y x' y' z w v = record { registers = refl; table = entries }
@@ -74,13 +41,13 @@ unit-loosened x y x' y' z w v = record { registers = refl; table = entries }
 -- the first unit, whose next fetch is therefore an aborted one, SUP off; the second unit suppresses that fetch.
 
 readOnly : Descriptor
-readOnly = descriptor 0x1000 0xFF RD
+readOnly = segment 0x1000 0xFF RD
 
 writable : Descriptor
-writable = descriptor 0x1000 0xFF 0
+writable = segment 0x1000 0xFF 0
 
 closed : Descriptor
-closed = descriptor 0x2000 0xFF CPUI
+closed = segment 0x2000 0xFF CPUI
 
 faultThenFetch : List Cycle
 faultThenFetch = cycle 8 false false 1 0 0 ∷ cycle 13 true false 2 0 0 ∷ []
@@ -108,10 +75,10 @@ stop-needed claim =
 -- block %18 is then inside the first's and outside the second's.
 
 short : Descriptor
-short = descriptor 0 0x10 0
+short = segment 0 0x10 0
 
 long : Descriptor
-long = descriptor 0 0x20 0
+long = segment 0 0x20 0
 
 turnThenRead : List Cycle
 turnThenRead = cycle 3 false true 0 0x0A DIRW ∷ cycle 8 true false 0 0x18 0 ∷ []

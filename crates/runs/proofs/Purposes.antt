@@ -21,6 +21,12 @@ isAcknowledge Acknowledge = true
 isAcknowledge Memory = false
 isAcknowledge Other = false
 
+abbrev pub isMemory : Purpose → Bool
+isMemory Command = false
+isMemory Acknowledge = false
+isMemory Memory = true
+isMemory Other = false
+
 module _ (s : ℕ) where
   pub command-status : isCommand (purposeOf s) ≡ eqb s 3
   unfolding purposeOf
@@ -42,3 +48,17 @@ module _ (s : ℕ) where
       go false true memory = refl
       go false false true = refl
       go false false false = refl
+
+  pub memory-status : isMemory (purposeOf s) ≡ (leb 8 s && leb s 13)
+  unfolding purposeOf
+  memory-status = go (eqb s 4) (eqb s 3) (leb 8 s && leb s 13) refl refl refl
+    where
+      low : (n : ℕ) → eqb s n ≡ true → (leb 8 n && leb n 13) ≡ false → false ≡ (leb 8 s && leb s 13)
+      low n q e = sym e ∙ sym (ap (λ (k : ℕ). leb 8 k && leb k 13) (eqb-true s n q))
+
+      go : (four three memory : Bool) → eqb s 4 ≡ four → eqb s 3 ≡ three → (leb 8 s && leb s 13) ≡ memory
+          → isMemory (cond four Acknowledge (cond three Command (cond memory Memory Other))) ≡ memory
+      go true three memory p q m = low 4 p refl ∙ m
+      go false true memory p q m = low 3 q refl ∙ m
+      go false false true p q m = refl
+      go false false false p q m = refl

@@ -14,6 +14,17 @@ module _ {A : Type 0} where
   set-at P (a ∷ l) (suc i) zero x d h k = h
   set-at P (a ∷ l) (suc i) (suc j) x d h k = set-at P l i j x d h (λ e. k (ap suc e))
 
+  -- the same of a store in each of two tables
+  pub set-both : (R : A → A → Type 0) (d x y : A) (s t : List A) (i j : ℕ) → length s ≡ length t → R (getD s j d) (getD t j d)
+      → (j ≡ i → R x y) → R (getD (set s i x) j d) (getD (set t i y) j d)
+  set-both R d x y [] [] i j e h k = h
+  set-both R d x y [] (b ∷ t) i j e h k = absurd (omega arith)
+  set-both R d x y (a ∷ s) [] i j e h k = absurd (omega arith)
+  set-both R d x y (a ∷ s) (b ∷ t) zero zero e h k = k refl
+  set-both R d x y (a ∷ s) (b ∷ t) zero (suc j) e h k = h
+  set-both R d x y (a ∷ s) (b ∷ t) (suc i) zero e h k = h
+  set-both R d x y (a ∷ s) (b ∷ t) (suc i) (suc j) e h k = set-both R d x y s t i j (omega arith) h (λ z. k (ap suc z))
+
   pub map-at : (R : A → A → Type 0) (f : A → A) (d : A) → ((x y : A) → R x y → R (f x) (f y)) → (s t : List A) → length s ≡ length t
       → ((i : ℕ) → R (getD s i d) (getD t i d)) → (i : ℕ) → R (getD (map f s) i d) (getD (map f t) i d)
   map-at R f d m [] [] e h i = h i

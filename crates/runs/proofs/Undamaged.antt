@@ -96,7 +96,7 @@ became-bounded {c} {r} (records starts event small stores holds) h =
 
 -- The unit
 
-changed-size : (h : Change) (i : ℕ) (t : List Descriptor) → length (changed h i t) ≡ length t
+pub changed-size : (h : Change) (i : ℕ) (t : List Descriptor) → length (changed h i t) ≡ length t
 unfolding changed
 changed-size Keep i t = refl
 changed-size (Put d) i t = length-set t i d

@@ -1,12 +1,15 @@
 -- Which cycles the claims name, by status and code number as document 01 prints them.
 -- Assumes nothing.
-use mathlib.Core.Bool.{Bool, true, false, not, _&&_, _||_}
+use mathlib.Core.Bool.{Bool, true, false, not, _&&_, _||_, Bool·beq}
 use mathlib.Core.List.{List, [], _∷_}
 use Prim.Native.Nat.{ℕ}
 use lib.Dec.{eqb, leb}
 use Rattle.rules.specs.Bus.{cpu, write}
+use Rattle.rules.specs.Flags.{has}
+use Rattle.rules.specs.Masks.{NMS, MST, URS, TRNS, MSEN, UPPER}
 use Rattle.rules.specs.Refusals.{outOfRange}
 use Rattle.rules.specs.declared.Cycle.{Cycle}
+use Rattle.rules.specs.declared.Unit.{Unit}
 use Rattle.runs.specs.Sequences.{among}
 
 -- "Status 3, CPU, select on: command", with the reset line off
@@ -16,6 +19,21 @@ selectedCommand c = not (c .reset) && eqb (c .status) 3 && (cpu c && c .select)
 -- "Status 4, CPU: acknowledge", with the reset line off
 abbrev pub acknowledge : Cycle → Bool
 acknowledge c = not (c .reset) && eqb (c .status) 4 && cpu c
+
+-- "Status %8 to %D: memory cycle, CPU or DMA", with the reset line off
+abbrev pub memoryCycle : Cycle → Bool
+memoryCycle c = not (c .reset) && (leb 0x8 (c .status) && leb (c .status) 0xD)
+
+-- the translation conditions: neither "MSEN clear" nor "TRNS clear", "URS must equal segment bit 6, and if MST is set, NMS must equal the
+-- mode (1 for normal)"
+abbrev pub conditions : (mr : ℕ) → Cycle → Bool
+conditions mr c =
+    has mr MSEN && has mr TRNS && Bool·beq (has mr URS) (has (c .segment) UPPER)
+    && (not (has mr MST) || Bool·beq (has mr NMS) (c .normal))
+
+-- a memory cycle that is not refused and meets them, an aborted fetch or not
+abbrev pub meets : Unit → Cycle → Bool
+meets u c = not (outOfRange c) && memoryCycle c && conditions (u .registers .control .mr) c
 
 -- "read-only %02 VTR, %03 VSN, %04 VOFF, %05 BCSR, %06 ISN, %07 IOFF"
 abbrev pub readOnly : (code : ℕ) → Bool
@@ -39,6 +57,14 @@ listed n = leb n 0x11 || leb 0x13 n && leb n 0x16 || eqb n 0x20
 -- a command that is not refused, and writes a byte of a descriptor
 unfoldable pub descriptorWrite : Cycle → Bool
 descriptorWrite c = not (outOfRange c) && selectedCommand c && write c && onDescriptor (c .offset)
+
+-- a command that is not refused, and reads or writes a byte of a descriptor
+abbrev pub descriptorCommand : Cycle → Bool
+descriptorCommand c = not (outOfRange c) && selectedCommand c && onDescriptor (c .offset)
+
+-- one that reads it
+abbrev pub descriptorRead : Cycle → Bool
+descriptorRead c = descriptorCommand c && c .read
 
 -- "Software reset": a write of %10
 abbrev pub softwareReset : Cycle → Bool

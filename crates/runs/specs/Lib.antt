@@ -7,5 +7,6 @@ pub mod Refusal
 pub mod Trap
 pub mod Notes
 pub mod Tighter
+pub mod Others
 pub mod Apart
 pub mod Exchange

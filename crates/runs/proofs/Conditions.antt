@@ -1,0 +1,153 @@
+-- Why ticket 12 needs each of its conditions: runs that antt computes.
+-- Assumes nothing.
+use mathlib.Core.Path.{_≡_, refl, sym, _∙_, ap}
+use mathlib.Core.Bool.{Bool, true, false, not, _&&_, _||_, and-true, true≢false, false≢true}
+use mathlib.Core.List.{List, [], _∷_}
+use Prim.Native.Nat.{ℕ, zero, suc, _<_}
+use native.Mathlib.Omega.{arith}
+use lib.Dec.{eqb, leb}
+use lib.ListN.{getD}
+use borrow.Author.Tests.{eq-eqb, eqb-true, leb-true, not-true}
+use Rattle.rules.specs.Masks.{RD}
+use Rattle.rules.specs.PowerOn.{none, powerOn}
+use Rattle.rules.specs.Refusals.{damaged, outOfRange, plain}
+use Rattle.rules.specs.Rows.{segment}
+use Rattle.rules.specs.Runs.{answers, final}
+use Rattle.rules.specs.Status.{ignored, purposeOf, byStatus}
+use Rattle.rules.specs.Checks.{rightsOf, outOfLength, warns}
+use Rattle.rules.specs.Recording.{eventOf, busStatus, firstEntry, recorded}
+use Rattle.rules.specs.Memory.{seen, begun, touchedBy, noted, checked, accessed, aborted, memory}
+use Rattle.rules.specs.Translation.{wayOf, blockOf, linesOf}
+use Rattle.rules.specs.Codes.{commandOf}
+use Rattle.rules.specs.Entry.{byteOf, indexOf}
+use Rattle.rules.specs.Commands.{given, entry, acted, executed, commanded}
+use Rattle.rules.specs.Step.{decided, placeOf, changed, decision, after, stepped}
+use Rattle.rules.specs.declared.Answer.{Answer}
+use Rattle.rules.specs.declared.Cycle.{Cycle}
+use Rattle.rules.specs.declared.Descriptor.{Descriptor}
+use Rattle.rules.specs.declared.Unit.{Unit}
+use Rattle.runs.specs.Cycles.{onDescriptor}
+use Rattle.runs.specs.Others.{Alike, Along, RegistersNeeded, InsideNeeded, SizeNeeded, NamesNeeded, AbortsNeeded, ReadsNeeded}
+use Rattle.runs.specs.Sequences.{all}
+use Rattle.runs.specs.Trap.{requesting}
+use Rattle.runs.specs.Undamaged.{Undamaged}
+use Rattle.runs.proofs.Examples.{unit, cycle, unit-undamaged}
+use Rattle.runs.proofs.Tests.{at, and-r}
+use Rattle.runs.proofs.Undamaged.{undamaged-from-power-on}
+
+-- Two units that differ in segment 0 alone, in every byte that a read can show. Segment 2 is read-only in both.
+
+other : (base limit attributes : ℕ) → Unit
+other base limit attributes = unit (segment base limit attributes) none (segment 0x3000 0xFF RD)
+
+left : Unit
+left = other 0x1000 0x10 0
+
+right : Unit
+right = other 0x2000 0x20 RD
+
+other-undamaged : (base limit attributes : ℕ) → Undamaged (other base limit attributes)
+unfolding other
+other-undamaged base limit attributes = unit-undamaged _ _ _
+
+-- the set: all segments but 0
+abbrev mine : ℕ → Bool
+mine i = not (eqb i 0)
+
+alike : Alike mine left right
+unfolding left right other
+alike = record { registers = refl; table = entries }
+  where
+    entries : (i : ℕ) → i < 64 → mine i ≡ true → getD (left .table) i none ≡ getD (right .table) i none
+    entries zero low e = absurd (false≢true e)
+    entries (suc zero) low e = refl
+    entries (suc (suc i)) low e = refl
+
+abbrev readZero : Cycle
+readZero = cycle 8 true false 0 0 0
+
+-- no answer drives the second unit's block of segment 0
+abbrev elsewhere : List Answer → Bool
+elsewhere l = all (λ (x : Answer). not (eqb (x .lines .block) 0x2000)) l
+
+pub inside-needed : InsideNeeded
+unfolding left right other Along answers outOfRange damaged decision decided placeOf purposeOf byStatus memory accessed checked seen rightsOf outOfLength warns wayOf blockOf linesOf
+inside-needed claim =
+    true≢false
+    (ap elsewhere
+    (claim (λ i. true) left right (readZero ∷ []) (other-undamaged _ _ _) (other-undamaged _ _ _) refl ((λ e. refl, refl), refl) .0))
+
+pub names-needed : NamesNeeded
+unfolding left right other Along answers outOfRange damaged decision decided placeOf purposeOf byStatus memory accessed checked seen rightsOf outOfLength warns wayOf blockOf linesOf
+names-needed claim =
+    true≢false
+    (ap elsewhere (claim mine left right (readZero ∷ []) (other-undamaged _ _ _) (other-undamaged _ _ _) alike (refl, refl) .0))
+
+-- Aborted fetches. A write to segment 2 is a violation in both units, and the fetch after it is the aborted one.
+
+abbrev faultThenFetch : List Cycle
+faultThenFetch = cycle 8 false false 2 0 0 ∷ cycle 13 true false 0 0 0 ∷ []
+
+pub aborts-needed : AbortsNeeded
+unfolding left right other Along answers outOfRange damaged decision decided placeOf changed after purposeOf byStatus seen begun touchedBy noted checked accessed aborted memory eventOf busStatus firstEntry recorded rightsOf outOfLength warns wayOf blockOf linesOf
+aborts-needed claim =
+    true≢false
+    (ap elsewhere
+    (claim mine left right faultThenFetch (other-undamaged _ _ _) (other-undamaged _ _ _) alike
+    ((λ e. refl, refl), ((λ e. absurd (false≢true e), refl), refl)) .0))
+
+-- Reads of %08 to %0F, SAR 0 and DSCR 0
+
+abbrev reads : (code : ℕ) → Cycle
+reads code = cycle 3 true true 0 code 0
+
+abbrev shown : Unit → (code : ℕ) → ℕ
+shown u code = stepped u (reads code) .answer .byte
+
+abbrev firstByte : List Answer → ℕ
+firstByte [] = 0
+firstByte (x ∷ l) = x .byte
+
+abbrev told : (code : ℕ) → Bool
+told code = not (onDescriptor code && eqb (shown left code) (shown right code))
+
+each-told : (code : ℕ) → onDescriptor code ≡ true → eqb (shown left code) (shown right code) ≡ false
+unfolding left right other outOfRange damaged decision decided placeOf purposeOf byStatus commandOf commanded executed entry given byteOf indexOf
+each-told code e =
+    not-true _ (rw e at (at 16 told refl code (omega (arith, leb-true code 15 (and-r (leb 8 code) _ e)))))
+
+pub reads-needed : ReadsNeeded
+unfolding left right other Along answers outOfRange
+reads-needed code e claim =
+    let same : answers left (reads code ∷ []) ≡ answers right (reads code ∷ []) =
+    claim mine left right (reads code ∷ []) (other-undamaged _ _ _) (other-undamaged _ _ _) alike
+    ((λ z. absurd (false≢true z), rw (e, eq-eqb code code refl) refl), refl) .0 in
+    false≢true (sym (each-told code e) ∙ eq-eqb _ _ (ap firstByte same))
+
+-- The registers. The trap line stands in the second unit alone; the cycle has status 0 and is ignored.
+
+pub registers-needed : RegistersNeeded
+unfolding Along answers final damaged outOfRange decision decided placeOf purposeOf byStatus ignored plain
+registers-needed claim =
+    true≢false
+    (ap (all (λ (x : Answer). not (x .trap)))
+    (claim mine powerOn requesting (cycle 0 true false 0 0 0 ∷ []) (undamaged-from-power-on []) (record { size = refl; sound = refl })
+    (λ i low e. refl) ((λ e. absurd (false≢true e), refl), refl) .0))
+
+-- The 64 descriptors. The first unit has none: set all CPUI closes segment 0 in the second alone, which suppresses the read.
+
+bare : Unit
+bare = record { table = []; registers = unit none none none .registers }
+
+pub size-needed : SizeNeeded
+unfolding bare Along answers outOfRange damaged decision decided placeOf changed after purposeOf byStatus commandOf commanded executed acted plain memory accessed checked seen rightsOf outOfLength warns wayOf begun
+size-needed claim =
+    true≢false
+    (ap (all (λ (x : Answer). not (x .sup)))
+    (claim (λ i. eqb i 0) bare (unit none none none) (cycle 3 false true 0 0x15 0 ∷ readZero ∷ []) refl refl
+    (record { registers = refl; table = entries })
+    ((λ e. absurd (false≢true e), refl), ((λ e. refl, refl), refl)) .0))
+  where
+    entries : (i : ℕ) → i < 64 → eqb i 0 ≡ true → getD (bare .table) i none ≡ getD (unit none none none .table) i none
+    entries zero low e = refl
+    entries (suc i) low e = absurd (omega (arith, eqb-true (suc i) 0 e))
