@@ -1,7 +1,7 @@
 -- Why ticket 12 needs each of its conditions: runs that antt computes.
 -- Assumes nothing.
 use mathlib.Core.Path.{_≡_, refl, sym, _∙_, ap}
-use mathlib.Core.Bool.{Bool, true, false, not, _&&_, _||_, and-true, true≢false, false≢true}
+use mathlib.Core.Bool.{Bool, true, false, not, _&&_, and-false, true≢false, false≢true}
 use mathlib.Core.List.{List, [], _∷_}
 use Prim.Native.Nat.{ℕ, zero, suc, _<_}
 use native.Mathlib.Omega.{arith}
@@ -27,35 +27,30 @@ use Rattle.rules.specs.declared.Cycle.{Cycle}
 use Rattle.rules.specs.declared.Descriptor.{Descriptor}
 use Rattle.rules.specs.declared.Unit.{Unit}
 use Rattle.runs.specs.Cycles.{onDescriptor}
-use Rattle.runs.specs.Others.{Alike, Along, RegistersNeeded, InsideNeeded, SizeNeeded, NamesNeeded, AbortsNeeded, ReadsNeeded}
+use Rattle.runs.specs.Others.{Alike, Along, MayRead, RegistersNeeded, InsideNeeded, SizeNeeded, NamesNeeded, AbortsNeeded}
+use Rattle.runs.specs.Others.{ReadsNeeded}
 use Rattle.runs.specs.Sequences.{all}
 use Rattle.runs.specs.Trap.{requesting}
-use Rattle.runs.specs.Undamaged.{Undamaged}
 use Rattle.runs.proofs.Examples.{unit, cycle, unit-undamaged}
 use Rattle.runs.proofs.Tests.{at, and-r}
 use Rattle.runs.proofs.Undamaged.{undamaged-from-power-on}
 
 -- Two units that differ in segment 0 alone, in every byte that a read can show. Segment 2 is read-only in both.
 
-other : (base limit attributes : ℕ) → Unit
-other base limit attributes = unit (segment base limit attributes) none (segment 0x3000 0xFF RD)
+abbrev locked : Descriptor
+locked = segment 0x3000 0xFF RD
 
-left : Unit
-left = other 0x1000 0x10 0
+abbrev left : Unit
+left = unit (segment 0x1000 0x10 0) none locked
 
-right : Unit
-right = other 0x2000 0x20 RD
-
-other-undamaged : (base limit attributes : ℕ) → Undamaged (other base limit attributes)
-unfolding other
-other-undamaged base limit attributes = unit-undamaged _ _ _
+abbrev right : Unit
+right = unit (segment 0x2000 0x20 RD) none locked
 
 -- the set: all segments but 0
 abbrev mine : ℕ → Bool
 mine i = not (eqb i 0)
 
 alike : Alike mine left right
-unfolding left right other
 alike = record { registers = refl; table = entries }
   where
     entries : (i : ℕ) → i < 64 → mine i ≡ true → getD (left .table) i none ≡ getD (right .table) i none
@@ -71,17 +66,17 @@ abbrev elsewhere : List Answer → Bool
 elsewhere l = all (λ (x : Answer). not (eqb (x .lines .block) 0x2000)) l
 
 pub inside-needed : InsideNeeded
-unfolding left right other Along answers outOfRange damaged decision decided placeOf purposeOf byStatus memory accessed checked seen rightsOf outOfLength warns wayOf blockOf linesOf
+unfolding Along answers outOfRange damaged decision decided placeOf purposeOf byStatus memory accessed checked seen rightsOf outOfLength warns wayOf blockOf linesOf
 inside-needed claim =
     true≢false
     (ap elsewhere
-    (claim (λ i. true) left right (readZero ∷ []) (other-undamaged _ _ _) (other-undamaged _ _ _) refl ((λ e. refl, refl), refl) .0))
+    (claim (λ i. true) left right (readZero ∷ []) (unit-undamaged _ _ _) (unit-undamaged _ _ _) refl ((λ e. refl, refl), refl) .0))
 
 pub names-needed : NamesNeeded
-unfolding left right other Along answers outOfRange damaged decision decided placeOf purposeOf byStatus memory accessed checked seen rightsOf outOfLength warns wayOf blockOf linesOf
+unfolding Along answers outOfRange damaged decision decided placeOf purposeOf byStatus memory accessed checked seen rightsOf outOfLength warns wayOf blockOf linesOf
 names-needed claim =
     true≢false
-    (ap elsewhere (claim mine left right (readZero ∷ []) (other-undamaged _ _ _) (other-undamaged _ _ _) alike (refl, refl) .0))
+    (ap elsewhere (claim mine left right (readZero ∷ []) (unit-undamaged _ _ _) (unit-undamaged _ _ _) alike (refl, refl) .0))
 
 -- Aborted fetches. A write to segment 2 is a violation in both units, and the fetch after it is the aborted one.
 
@@ -89,11 +84,11 @@ abbrev faultThenFetch : List Cycle
 faultThenFetch = cycle 8 false false 2 0 0 ∷ cycle 13 true false 0 0 0 ∷ []
 
 pub aborts-needed : AbortsNeeded
-unfolding left right other Along answers outOfRange damaged decision decided placeOf changed after purposeOf byStatus seen begun touchedBy noted checked accessed aborted memory eventOf busStatus firstEntry recorded rightsOf outOfLength warns wayOf blockOf linesOf
+unfolding Along answers outOfRange damaged decision decided placeOf changed after purposeOf byStatus seen begun touchedBy noted checked accessed aborted memory eventOf busStatus firstEntry recorded rightsOf outOfLength warns wayOf blockOf linesOf
 aborts-needed claim =
     true≢false
     (ap elsewhere
-    (claim mine left right faultThenFetch (other-undamaged _ _ _) (other-undamaged _ _ _) alike
+    (claim mine left right faultThenFetch (unit-undamaged _ _ _) (unit-undamaged _ _ _) alike
     ((λ e. refl, refl), ((λ e. absurd (false≢true e), refl), refl)) .0))
 
 -- Reads of %08 to %0F, SAR 0 and DSCR 0
@@ -112,16 +107,21 @@ abbrev told : (code : ℕ) → Bool
 told code = not (onDescriptor code && eqb (shown left code) (shown right code))
 
 each-told : (code : ℕ) → onDescriptor code ≡ true → eqb (shown left code) (shown right code) ≡ false
-unfolding left right other outOfRange damaged decision decided placeOf purposeOf byStatus commandOf commanded executed entry given byteOf indexOf
+unfolding outOfRange damaged decision decided placeOf purposeOf byStatus commandOf commanded executed entry given byteOf indexOf
 each-told code e =
     not-true _ (rw e at (at 16 told refl code (omega (arith, leb-true code 15 (and-r (leb 8 code) _ e)))))
 
+-- a read of the one code is all that is excused
+reads-may : (code : ℕ) → MayRead code mine left (reads code)
+unfolding outOfRange
+reads-may code =
+    (λ e. absurd (false≢true e), ap (λ (one : Bool). onDescriptor code && not one) (eq-eqb code code refl) ∙ and-false (onDescriptor code))
+
 pub reads-needed : ReadsNeeded
-unfolding left right other Along answers outOfRange
+unfolding Along answers
 reads-needed code e claim =
     let same : answers left (reads code ∷ []) ≡ answers right (reads code ∷ []) =
-    claim mine left right (reads code ∷ []) (other-undamaged _ _ _) (other-undamaged _ _ _) alike
-    ((λ z. absurd (false≢true z), rw (e, eq-eqb code code refl) refl), refl) .0 in
+    claim mine left right (reads code ∷ []) (unit-undamaged _ _ _) (unit-undamaged _ _ _) alike (reads-may code, refl) .0 in
     false≢true (sym (each-told code e) ∙ eq-eqb _ _ (ap firstByte same))
 
 -- The registers. The trap line stands in the second unit alone; the cycle has status 0 and is ignored.

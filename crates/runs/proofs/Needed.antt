@@ -1,10 +1,10 @@
 -- Why demand 3 needs its stop and leaves out writes to descriptors: two runs that antt computes.
 -- Assumes nothing.
 use mathlib.Core.Path.{refl}
-use mathlib.Core.Bool.{Bool, true, false, false≢true}
+use mathlib.Core.Bool.{true, false, false≢true}
 use mathlib.Core.List.{List, [], _∷_}
 use Prim.Native.Nat.{ℕ, zero, suc, _<_}
-use lib.ListN.{getD, replicate}
+use lib.ListN.{getD}
 use Rattle.rules.specs.Masks.{RD, CPUI, DIRW}
 use lib.Dec.{lit≤}
 use Rattle.rules.specs.PowerOn.{none}
@@ -22,10 +22,8 @@ use Rattle.rules.specs.Commands.{given, controlled, entry, executed, commanded}
 use Rattle.rules.specs.Step.{decided, placeOf, changed, decision, after}
 use Rattle.rules.specs.declared.Cycle.{Cycle}
 use Rattle.rules.specs.declared.Descriptor.{Descriptor}
-use Rattle.rules.specs.declared.Unit.{Unit}
 use Rattle.runs.specs.Cycles.{descriptorWrite}
 use Rattle.runs.specs.Tighter.{Wider, Loosened, before, StopNeeded, WritesExcluded}
-use Rattle.runs.specs.Undamaged.{Undamaged}
 use Rattle.runs.proofs.Examples.{unit, cycle, unit-undamaged}
 use Rattle.runs.proofs.Wider.{wider-refl}
 

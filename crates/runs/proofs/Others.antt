@@ -12,21 +12,18 @@ use Rattle.rules.proofs.Blind.{Kindred, keep, put, raise, Unseen, unseen-refl, 
 use Rattle.rules.specs.PowerOn.{none}
 use Rattle.rules.specs.Refusals.{damaged, outOfRange}
 use Rattle.rules.specs.Runs.{answers, units}
-use Rattle.rules.specs.Step.{decided, placeOf, place, marked, changed, decision, after, stepped}
-use Rattle.rules.specs.declared.Answer.{Answer}
+use Rattle.rules.specs.Step.{decided, placeOf, place, marked, changed, decision, after}
 use Rattle.rules.specs.declared.Change.{Change}
 use Rattle.rules.specs.declared.Cycle.{Cycle}
-use Rattle.rules.specs.declared.Descriptor.{Descriptor}
 use Rattle.rules.specs.declared.Registers.{Registers}
 use Rattle.rules.specs.declared.Unit.{Unit}
 use Rattle.runs.specs.Cycles.{memoryCycle, meets, descriptorCommand, descriptorRead}
-use Rattle.runs.specs.Others.{Alike, Sized, Along, ByTicket, LooksInside, OthersUnseen, Ticket12, LooksAlone}
+use Rattle.runs.specs.Others.{Alike, Sized, Along, ByTicket, LooksInside, Ticket12, LooksAlone}
 use Rattle.runs.specs.Sequences.{Both}
-use Rattle.runs.specs.Undamaged.{Undamaged}
 use Rattle.runs.proofs.Looks.{looks-told}
 use Rattle.runs.proofs.Tables.{set-both, at-map}
 use Rattle.runs.proofs.Tests.{and-l, and-r}
-use Rattle.runs.proofs.Undamaged.{changed-size}
+use Rattle.runs.proofs.Undamaged.{size-after}
 
 -- One cycle
 
@@ -63,10 +60,6 @@ module _ (inside : ℕ → Bool) (a b : Unit) (c : Cycle) (h : Alike inside a b)
   step-alike n m =
       record { registers = step-unseen .registers; table = rw same-place (change-alike n m _ _ (step-unseen .change)) }
 
-sized-after : (u : Unit) (c : Cycle) → Sized u → Sized (after u c)
-unfolding after
-sized-after u c n = changed-size (decision u c .change) (place u c) (u .table) ∙ n
-
 -- Runs
 
 pub looks-alone : LooksAlone
@@ -74,7 +67,7 @@ unfolding Along answers units
 looks-alone inside a b [] n m h may = (refl, refl)
 looks-alone inside a b (c ∷ cs) n m h may =
     let later : (answers (after a c) cs ≡ answers (after b c) cs) × Both (Alike inside) (units (after a c) cs) (units (after b c) cs) =
-    looks-alone inside (after a c) (after b c) cs (sized-after a c n) (sized-after b c m) (step-alike inside a b c h (may .0) n m) (may .1) in (
+    looks-alone inside (after a c) (after b c) cs (size-after a c ∙ n) (size-after b c ∙ m) (step-alike inside a b c h (may .0) n m) (may .1) in (
       ap₂ _∷_ (step-unseen inside a b c h (may .0) .answer) (later .0),
       (step-alike inside a b c h (may .0) n m, later .1),
     )

@@ -96,18 +96,22 @@ became-bounded {c} {r} (records starts event small stores holds) h =
 
 -- The unit
 
-pub changed-size : (h : Change) (i : ℕ) (t : List Descriptor) → length (changed h i t) ≡ length t
+changed-size : (h : Change) (i : ℕ) (t : List Descriptor) → length (changed h i t) ≡ length t
 unfolding changed
 changed-size Keep i t = refl
 changed-size (Put d) i t = length-set t i d
 changed-size (Raise m) i t = length-map t _
+
+pub size-after : (u : Unit) (c : Cycle) → length (stepped u c .unit .table) ≡ length (u .table)
+unfolding after
+size-after u c = changed-size (decision u c .change) (place u c) (u .table)
 
 pub undamaged-after : (u : Unit) (c : Cycle) → Undamaged u → Undamaged (stepped u c .unit)
 unfolding after
 undamaged-after u c h =
     let before : Bounded (u .registers) × Rooted (u .registers) = sound-bounded _ (h .sound) in
     record {
-      size = changed-size (decision u c .change) (place u c) (u .table) ∙ h .size;
+      size = size-after u c ∙ h .size;
       sound = bounded-sound _ (became-bounded (made u c .became) (before .0), became-rooted (made u c .became) (before .1));
     }
 

@@ -12,7 +12,6 @@ use Rattle.rules.specs.Refusals.{damaged}
 use Rattle.rules.specs.Runs.{answers, units}
 use Rattle.rules.specs.Step.{place, stepped}
 use Rattle.rules.specs.declared.Cycle.{Cycle}
-use Rattle.rules.specs.declared.Descriptor.{Descriptor}
 use Rattle.rules.specs.declared.Unit.{Unit}
 use Rattle.runs.specs.Cycles.{meets, onDescriptor, descriptorCommand, descriptorRead}
 use Rattle.runs.specs.Sequences.{_⇒_, Both}
