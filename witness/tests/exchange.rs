@@ -4,40 +4,12 @@
 use witness::commands::code::{CLEAR_FATL, CLEAR_SWW, CLEAR_VTR, RESET, SET_CPUI, SET_DMAI};
 use witness::cycle::{Answer, Cycle};
 use witness::generate::random::Random;
-use witness::generate::steps::vtr;
+use witness::generate::steps::undamaged;
 use witness::step::Step;
-use witness::unit::{Descriptor, Unit};
+use witness::unit::Unit;
 use witness::Document01;
 
 const SETS_AND_CLEARS: [u8; 6] = [RESET, CLEAR_VTR, CLEAR_SWW, CLEAR_FATL, SET_CPUI, SET_DMAI];
-
-/// Any undamaged unit.
-fn undamaged(random: &mut Random) -> Unit {
-    let mut table = [Descriptor::default(); 64];
-    for descriptor in &mut table {
-        *descriptor = Descriptor {
-            base: random.word(),
-            limit: random.byte(),
-            attributes: random.byte(),
-        };
-    }
-    Unit {
-        table,
-        mr: random.byte(),
-        sar: random.byte() % 64,
-        dscr: random.byte() % 4,
-        vtr: vtr(random),
-        vsn: random.byte() % 64,
-        voff: random.byte(),
-        bcsr: random.byte() % 64,
-        isn: random.byte() % 64,
-        ioff: random.byte(),
-        request: random.coin(),
-        awaits: random.coin(),
-        own: random.coin(),
-        hold: random.coin(),
-    }
-}
 
 /// A selected CPU write with this code: any data byte, mode and segment.
 fn write(random: &mut Random, code: u8) -> Cycle {

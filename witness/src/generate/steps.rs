@@ -131,10 +131,38 @@ fn sane(bus: &mut Bus) -> Unit {
 }
 
 /// Any VTR of an undamaged unit: zero where an orphan is drawn.
-pub fn vtr(random: &mut Random) -> u8 {
+fn vtr(random: &mut Random) -> u8 {
     match random.byte() {
         vtr if vtr & violation::PRIMARY == 0 => 0,
         vtr => vtr,
+    }
+}
+
+/// Any undamaged unit.
+pub fn undamaged(random: &mut Random) -> Unit {
+    let mut table = [Descriptor::default(); 64];
+    for descriptor in &mut table {
+        *descriptor = Descriptor {
+            base: random.word(),
+            limit: random.byte(),
+            attributes: random.byte(),
+        };
+    }
+    Unit {
+        table,
+        mr: random.byte(),
+        sar: random.byte() % 64,
+        dscr: random.byte() % 4,
+        vtr: vtr(random),
+        vsn: random.byte() % 64,
+        voff: random.byte(),
+        bcsr: random.byte() % 64,
+        isn: random.byte() % 64,
+        ioff: random.byte(),
+        request: random.coin(),
+        awaits: random.coin(),
+        own: random.coin(),
+        hold: random.coin(),
     }
 }
 

@@ -1,0 +1,409 @@
+//! Other people's segments, ticket 12: pairs of units that differ in nothing
+//! but descriptors outside a set. Cycles that keep the ticket's conditions show
+//! no difference; where one condition is broken and no other, some cycle does.
+
+use witness::commands::code::{BASE, CLEAR_VTR, MR, RESET, SET_CPUI, SET_DMAI, WHOLE_STEPPING};
+use witness::cycle::{Answer, Cycle, Kind};
+use witness::generate::random::Random;
+use witness::generate::steps::undamaged;
+use witness::step::Step;
+use witness::unit::{attribute, mode, violation, Descriptor, Unit};
+use witness::Document01;
+
+const PAIRS: usize = 10_000;
+const CYCLES: usize = 60;
+
+/// Document 01's sentence of translation, of a memory cycle that is not
+/// refused. Whether it is an aborted fetch makes no difference here.
+fn translates(unit: &Unit, cycle: &Cycle) -> bool {
+    let [nms, mst, urs, trns, msen] = [3, 4, 5, 6, 7].map(|bit| unit.mr >> bit & 1 == 1);
+    let memory = matches!(cycle.status, 0x8..=0xD) && cycle.segment <= 127 && !cycle.reset;
+    let upper = cycle.segment >= 64;
+    memory && msen && trns && urs == upper && (!mst || nms == cycle.normal)
+}
+
+fn aborted(unit: &Unit, cycle: &Cycle) -> bool {
+    unit.awaits && cycle.status == 0xD && cycle.read && !cycle.dma
+}
+
+/// A selected command %08 to %0F, either way.
+fn takes_descriptor(cycle: &Cycle) -> bool {
+    let obeyed = !cycle.reset && !cycle.dma && cycle.select && cycle.segment <= 127;
+    obeyed && cycle.status == 0x3 && matches!(cycle.offset, BASE..=WHOLE_STEPPING)
+}
+
+/// Two units, and a set of descriptor numbers.
+struct Pair {
+    inside: Vec<u8>,
+    units: [Unit; 2],
+}
+
+/// One cycle in both units, with the first as it was before.
+struct Turn {
+    before: Unit,
+    cycle: Cycle,
+    answers: [Answer; 2],
+}
+
+impl Pair {
+    /// Units that are equal but for descriptors outside a set, which is often
+    /// empty or full or nearly so.
+    fn new(random: &mut Random) -> Pair {
+        let odds = random.pick(&[0, 1, 8, 32, 56, 63, 64]);
+        let inside: Vec<u8> = (0..64).filter(|_| random.below(64) < odds).collect();
+        let unit = busy(random);
+        let mut twin = Unit {
+            table: busy(random).table,
+            ..unit.clone()
+        };
+        for &number in &inside {
+            twin.table[usize::from(number)] = unit.table[usize::from(number)];
+        }
+        let units = [unit, twin];
+        Pair { inside, units }
+    }
+
+    fn has(&self, segment: u8) -> bool {
+        self.inside.contains(&(segment % 64))
+    }
+
+    fn translates(&self, cycle: &Cycle) -> bool {
+        self.units.iter().any(|unit| translates(unit, cycle))
+    }
+
+    fn looks_inside(&self, cycle: &Cycle) -> bool {
+        self.has(cycle.segment) || !self.translates(cycle)
+    }
+
+    /// Equal in all but the descriptors outside.
+    fn alike(&self) -> bool {
+        let [unit, twin] = &self.units;
+        let mut table = unit.table;
+        for &number in &self.inside {
+            table[usize::from(number)] = twin.table[usize::from(number)];
+        }
+        let mended = Unit {
+            table,
+            ..twin.clone()
+        };
+        mended == *unit
+    }
+
+    /// Any cycle. The data byte is drawn for MR, and any other code takes it.
+    fn any(&self, random: &mut Random) -> Cycle {
+        let status = match random.below(16) {
+            0 => random.byte(),
+            1 => random.byte() % 16,
+            2 => 0x4,
+            3..=6 => 0x3,
+            7..=9 => 0xD,
+            _ => random.pick(&[0x8, 0x9, 0x9, 0x9, 0xA, 0xB, 0xC, 0xD]),
+        };
+        Cycle {
+            status,
+            read: random.coin(),
+            normal: random.coin(),
+            dma: random.once_in(5),
+            select: !random.once_in(4),
+            segment: self.segment(random),
+            offset: match status {
+                0x3 => code(random),
+                _ => small(random),
+            },
+            data: translating(random),
+            reset: random.once_in(200),
+        }
+    }
+
+    /// Any segment, but mostly one inside and in the unit's range.
+    fn segment(&self, random: &mut Random) -> u8 {
+        let number = match random.below(4) {
+            1.. if !self.inside.is_empty() => random.pick(&self.inside),
+            _ => random.byte() % 64,
+        };
+        let range = if self.units[0].mode(mode::URS) { 64 } else { 0 };
+        match random.below(32) {
+            0 => number | random.byte() | 0x80,
+            1..=8 => number | random.byte() & 0x40,
+            _ => number | range,
+        }
+    }
+
+    /// Steps both units with any cycle that the rule allows.
+    fn turn(&mut self, random: &mut Random, rule: &impl Fn(&Pair, &Cycle) -> bool) -> Turn {
+        let mut cycle = self.any(random);
+        while !rule(self, &cycle) {
+            cycle = self.any(random);
+        }
+        let before = self.units[0].clone();
+        let step = |unit| Document01::step(unit, &cycle);
+        let answers = self.units.each_mut().map(step);
+        Turn {
+            before,
+            cycle,
+            answers,
+        }
+    }
+}
+
+/// Any undamaged unit, but one that mostly translates, often without a
+/// violation: few flags but DIRW, and limits that offsets often meet.
+fn busy(random: &mut Random) -> Unit {
+    let mut unit = undamaged(random);
+    unit.mr = translating(random);
+    unit.vtr &= random.pick(&[0, 0xFF]);
+    for descriptor in &mut unit.table {
+        descriptor.attributes &= random.byte() & random.byte() | attribute::DIRW;
+        descriptor.limit = small(random);
+    }
+    unit
+}
+
+/// A mode register with MSEN and TRNS set, or any.
+fn translating(random: &mut Random) -> u8 {
+    match random.below(8) {
+        0 => random.byte(),
+        _ => random.byte() | mode::MSEN | mode::TRNS,
+    }
+}
+
+/// Any byte, but mostly 0 or 1.
+fn small(random: &mut Random) -> u8 {
+    random.byte() & random.pick(&[0x01, 0x01, 0xFF])
+}
+
+/// Any code. MR often, since a reset leaves no unit translating, and clear
+/// VTR, since some things are recorded only after it.
+fn code(random: &mut Random) -> u8 {
+    match random.below(8) {
+        0 | 1 => MR,
+        2 | 3 => CLEAR_VTR,
+        4 => random.byte(),
+        _ => random.byte() % 0x24,
+    }
+}
+
+type Wanted = (&'static str, fn(&Pair, &Turn) -> bool);
+
+/// What runs must meet often, or they would say nothing. A pair is as it stands
+/// after the cycle.
+const USUAL: &[Wanted] = &[
+    ("none inside", |pair, _| pair.inside.is_empty()),
+    ("all inside", |pair, _| pair.inside.len() == 64),
+    ("translated", |_, turn| is(turn, Kind::Translated)),
+    ("translated for DMA", |_, turn| {
+        is(turn, Kind::Translated) && turn.cycle.dma
+    }),
+    ("translated in a pair that differs", |pair, turn| {
+        is(turn, Kind::Translated) && pair.units[0] != pair.units[1]
+    }),
+    ("marked", |pair, turn| {
+        is(turn, Kind::Translated) && pair.units[0].table != turn.before.table
+    }),
+    ("suppressed", |_, turn| turn.answers[0].sup),
+    ("DMA suppressed", |_, turn| {
+        turn.answers[0].sup && turn.cycle.dma
+    }),
+    ("warned", |pair, turn| sets(pair, turn, violation::PWW)),
+    ("warned again", |pair, turn| {
+        sets(pair, turn, violation::SWW)
+    }),
+    ("fatal", |pair, turn| sets(pair, turn, violation::FATL)),
+    ("instruction stored", |pair, turn| {
+        pair.units[0].isn != turn.before.isn
+    }),
+    ("aborted fetch at a descriptor", |_, turn| {
+        is(turn, Kind::AbortedFetch) && translates(&turn.before, &turn.cycle)
+    }),
+    ("passed", |_, turn| is(turn, Kind::Passed)),
+    ("memory cycle outside", |pair, turn| {
+        matches!(turn.cycle.status, 0x8..=0xD) && !pair.has(turn.cycle.segment)
+    }),
+    ("ignored", |_, turn| is(turn, Kind::Ignored)),
+    ("reset", |_, turn| is(turn, Kind::Reset)),
+    ("acknowledge", |_, turn| is(turn, Kind::Acknowledge)),
+    ("software reset", |_, turn| obeys(turn, RESET)),
+    ("set all CPUI", |_, turn| obeys(turn, SET_CPUI)),
+    ("set all DMAI", |_, turn| obeys(turn, SET_DMAI)),
+    ("refusal 1", |_, turn| is(turn, Kind::Refused(1))),
+    ("refusal 3", |_, turn| is(turn, Kind::Refused(3))),
+    ("refusal 4", |_, turn| is(turn, Kind::Refused(4))),
+];
+
+/// The same of runs with descriptor commands.
+const DESCRIPTOR_BYTES: &[Wanted] = &[
+    ("descriptor write inside", |pair, turn| {
+        takes_descriptor(&turn.cycle) && turn.cycle.write() && pair.has(turn.before.sar)
+    }),
+    ("descriptor write outside", |pair, turn| {
+        takes_descriptor(&turn.cycle) && turn.cycle.write() && !pair.has(turn.before.sar)
+    }),
+    ("descriptor read", |_, turn| {
+        takes_descriptor(&turn.cycle) && turn.cycle.read
+    }),
+];
+
+fn is(turn: &Turn, kind: Kind) -> bool {
+    turn.answers[0].kind == kind
+}
+
+fn obeys(turn: &Turn, code: u8) -> bool {
+    is(turn, Kind::Command) && turn.cycle.offset == code
+}
+
+fn sets(pair: &Pair, turn: &Turn, flag: u8) -> bool {
+    pair.units[0].vtr & !turn.before.vtr & flag != 0
+}
+
+/// No cycle that the rule allows shows a difference, and what is wanted comes
+/// some hundred times.
+fn nothing_shows(rule: fn(&Pair, &Cycle) -> bool, wanted: &[Wanted]) {
+    let mut random = Random::new(12, 0);
+    let mut counts = vec![0; wanted.len()];
+    for number in 0..PAIRS {
+        let mut pair = Pair::new(&mut random);
+        for _ in 0..CYCLES {
+            let turn = pair.turn(&mut random, &rule);
+            let [answer, twin] = turn.answers;
+            assert_eq!(answer, twin, "pair {number}: {:?}", turn.cycle);
+            assert!(pair.alike(), "pair {number}: {:?}", turn.cycle);
+            for (count, (_, meets)) in counts.iter_mut().zip(wanted) {
+                *count += usize::from(meets(&pair, &turn));
+            }
+        }
+    }
+    for (count, (name, _)) in counts.iter().zip(wanted) {
+        assert!(*count >= 200, "only {count}: {name}");
+    }
+}
+
+/// The first cycle that the units of a pair answer in two ways. Each pair is
+/// changed first, with another unit to take from.
+fn shows(change: impl Fn(&mut Pair, Unit), rule: impl Fn(&Pair, &Cycle) -> bool) -> Option<Turn> {
+    let mut random = Random::new(12, 1);
+    for _ in 0..PAIRS {
+        let mut pair = Pair::new(&mut random);
+        change(&mut pair, busy(&mut random));
+        let mut turns = (0..CYCLES).map(|_| pair.turn(&mut random, &rule));
+        let found = turns.find(|turn| turn.answers[0] != turn.answers[1]);
+        if found.is_some() {
+            return found;
+        }
+    }
+    None
+}
+
+/// The ticket's conditions on a cycle.
+fn ticket(pair: &Pair, cycle: &Cycle) -> bool {
+    pair.looks_inside(cycle) && !takes_descriptor(cycle)
+}
+
+/// The test's own reading of the conditions against the model's.
+#[test]
+fn a_cycle_that_meets_the_conditions_is_translated_unless_aborted() {
+    let mut random = Random::new(12, 2);
+    for _ in 0..PAIRS {
+        let mut pair = Pair::new(&mut random);
+        pair.units[0].awaits = false;
+        let turn = pair.turn(&mut random, &|_, _| true);
+        let meets = translates(&turn.before, &turn.cycle);
+        assert_eq!(is(&turn, Kind::Translated), meets, "{:?}", turn.cycle);
+    }
+}
+
+#[test]
+fn nothing_shows_under_the_conditions_of_the_ticket() {
+    nothing_shows(ticket, USUAL);
+}
+
+/// More than the ticket asks: a write with %08 to %0F tells nothing wherever
+/// SAR stands, and a read tells nothing while SAR stands in the set.
+#[test]
+fn nothing_shows_with_descriptor_writes_and_reads_inside() {
+    let rule = |pair: &Pair, cycle: &Cycle| {
+        let told = takes_descriptor(cycle) && cycle.read && !pair.has(pair.units[0].sar);
+        pair.looks_inside(cycle) && !told
+    };
+    nothing_shows(rule, &[USUAL, DESCRIPTOR_BYTES].concat());
+}
+
+#[test]
+fn a_translated_cycle_outside_shows() {
+    let rule = |pair: &Pair, cycle: &Cycle| {
+        let free = !aborted(&pair.units[0], cycle);
+        (free || pair.looks_inside(cycle)) && !takes_descriptor(cycle)
+    };
+    let turn = shows(|_, _| (), rule).expect("a difference");
+    assert!(is(&turn, Kind::Translated));
+}
+
+/// Nothing but its address, since nothing is checked.
+#[test]
+fn an_aborted_fetch_outside_shows() {
+    let rule = |pair: &Pair, cycle: &Cycle| {
+        let free = aborted(&pair.units[0], cycle);
+        (free || pair.looks_inside(cycle)) && !takes_descriptor(cycle)
+    };
+    let turn = shows(|_, _| (), rule).expect("a difference");
+    let [answer, twin] = turn.answers;
+    let address = answer.address;
+    assert!(is(&turn, Kind::AbortedFetch));
+    assert_eq!(answer, Answer { address, ..twin });
+}
+
+#[test]
+fn a_descriptor_read_outside_shows_with_each_code() {
+    for code in BASE..=WHOLE_STEPPING {
+        let rule = |pair: &Pair, cycle: &Cycle| {
+            let outside = cycle.read && !pair.has(pair.units[0].sar);
+            let read = cycle.offset == code && outside;
+            pair.looks_inside(cycle) && (read || !takes_descriptor(cycle))
+        };
+        let turn = shows(|_, _| (), rule).expect("a difference");
+        let [answer, twin] = turn.answers;
+        let data = answer.data;
+        assert!(obeys(&turn, code) && turn.cycle.read);
+        assert_eq!(answer, Answer { data, ..twin });
+    }
+}
+
+#[test]
+fn each_register_and_note_shows() {
+    let changes: [fn(&mut Unit, Unit); 13] = [
+        |unit, from| unit.mr = from.mr,
+        |unit, from| unit.sar = from.sar,
+        |unit, from| unit.dscr = from.dscr,
+        |unit, from| unit.vtr = from.vtr,
+        |unit, from| unit.vsn = from.vsn,
+        |unit, from| unit.voff = from.voff,
+        |unit, from| unit.bcsr = from.bcsr,
+        |unit, from| unit.isn = from.isn,
+        |unit, from| unit.ioff = from.ioff,
+        |unit, from| unit.request = from.request,
+        |unit, from| unit.awaits = from.awaits,
+        |unit, from| unit.own = from.own,
+        |unit, from| unit.hold = from.hold,
+    ];
+    for (place, change) in changes.iter().enumerate() {
+        let found = shows(|pair, from| change(&mut pair.units[1], from), ticket);
+        assert!(found.is_some(), "register {place}");
+    }
+}
+
+#[test]
+fn each_field_of_a_descriptor_inside_shows() {
+    let changes: [fn(&mut Descriptor, Descriptor); 3] = [
+        |descriptor, from| descriptor.base = from.base,
+        |descriptor, from| descriptor.limit = from.limit,
+        |descriptor, from| descriptor.attributes = from.attributes,
+    ];
+    for (place, change) in changes.iter().enumerate() {
+        let change = |pair: &mut Pair, from: Unit| {
+            if let Some(&number) = pair.inside.first() {
+                let number = usize::from(number);
+                change(&mut pair.units[1].table[number], from.table[number]);
+            }
+        };
+        assert!(shows(change, ticket).is_some(), "field {place}");
+    }
+}
