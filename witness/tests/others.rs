@@ -7,6 +7,7 @@ use witness::cycle::{Answer, Cycle, Kind};
 use witness::generate::random::Random;
 use witness::generate::steps::undamaged;
 use witness::step::Step;
+use witness::text::Text;
 use witness::unit::{attribute, mode, violation, Descriptor, Unit};
 use witness::Document01;
 
@@ -406,4 +407,25 @@ fn each_field_of_a_descriptor_inside_shows() {
         };
         assert!(shows(change, ticket).is_some(), "field {place}");
     }
+}
+
+/// Records in which two traces or two listings of one length differ.
+fn differing<T: PartialEq>(one: &[T], other: &[T]) -> Vec<usize> {
+    assert_eq!(one.len(), other.len());
+    (0..one.len()).filter(|&n| one[n] != other[n]).collect()
+}
+
+/// The stored captures: records 1 to 4 write another user's descriptor, and
+/// only records 32 to 35, which look at it, tell the two apart.
+#[test]
+fn the_stored_captures_differ_where_the_manual_says() {
+    let traces: [&[u8]; 2] = [
+        include_bytes!("../../samples/others.mbt"),
+        include_bytes!("../../samples/others-twin.mbt"),
+    ];
+    let [one, other] = traces.map(|trace| trace[7..].chunks(4).collect::<Vec<_>>());
+    assert_eq!(differing(&one, &other), [1, 2, 3, 4]);
+    let [one, other] = traces.map(|trace| String::from_utf8(Document01::run(trace)).unwrap());
+    let lines = |text: &'_ str| text.lines().skip(1).map(String::from).collect::<Vec<_>>();
+    assert_eq!(differing(&lines(&one), &lines(&other)), [32, 33, 34, 35]);
 }

@@ -56,17 +56,19 @@ LooksInside inside u c = (meets u c || descriptorRead c) ⇒ inside (place u c)
 abbrev pub OthersUnseen : (Fit : Unit → Type 0) → (Like : (ℕ → Bool) → Unit → Unit → Type 0) → (May : (ℕ → Bool) → Unit → Cycle → Type 0) → Type 0
 OthersUnseen Fit Like May =
     (inside : ℕ → Bool) (a b : Unit) (cs : List Cycle)
+    -- "two undamaged units": damaged ones do no harm (`LooksAlone`), but both tables must have 64 descriptors (`SizeNeeded`)
     → Fit a
     → Fit b
+    -- "that differ only in descriptors outside a set" (`RegistersNeeded`, `InsideNeeded`)
     → Like inside a b
-    -- the first unit's run alone is asked: in the second the same cycles meet the translation conditions
+    -- "the same cycles", each as the ticket asks (`NamesNeeded`, `AbortsNeeded`, `ReadsNeeded`). The first unit's run alone is asked, since MR
+    -- is the same in the second
     → Along (May inside) a cs
-    -- "all answers are the same at every cycle, refusals [..] included", and "every register but those descriptors is equal in the two
-    -- units after each cycle"
+    -- "all answers are the same at every cycle, refusals [..] included", and "every register but those descriptors is equal in the two units
+    -- after each cycle"
     → (answers a cs ≡ answers b cs) × Both (Alike inside) (units a cs) (units b cs)
 
--- CLAIM, ticket 12: "two undamaged units that differ only in descriptors outside a set", "the same cycles". Set all CPUI and set all DMAI,
--- resets, acknowledges, DMA and refused cycles may all come.
+-- CLAIM, ticket 12. Set all CPUI and set all DMAI, resets, acknowledges, DMA and refused cycles may all come.
 abbrev pub Ticket12 : Type 0
 Ticket12 = OthersUnseen Undamaged Alike ByTicket
 
@@ -74,9 +76,9 @@ Ticket12 = OthersUnseen Undamaged Alike ByTicket
 abbrev pub LooksAlone : Type 0
 LooksAlone = OthersUnseen Sized Alike LooksInside
 
--- What is left of the ticket's conditions is needed. Each claim below has all of them but one, and is false.
+-- What is left of the ticket's conditions is needed: with all of them but one the statement is false.
 
--- CLAIM: the registers. A trap line that stands in one unit alone shows in every answer.
+-- CLAIM: the registers. A trap line that stands in one unit alone shows in its answers.
 abbrev pub RegistersNeeded : Type 0
 RegistersNeeded = OthersUnseen Undamaged AlikeInside ByTicket → ⊥
 
