@@ -415,8 +415,9 @@ fn differing<T: PartialEq>(one: &[T], other: &[T]) -> Vec<usize> {
     (0..one.len()).filter(|&n| one[n] != other[n]).collect()
 }
 
-/// The stored captures: records 1 to 4 write another user's descriptor, and
-/// only records 32 to 35, which look at it, tell the two apart.
+/// The stored captures: records 1 to 4 write another user's descriptor. Only
+/// records 32 to 34, which look at it, and 35, which reads the VTR that these
+/// have left, tell the two apart.
 #[test]
 fn the_stored_captures_differ_where_the_manual_says() {
     let traces: [&[u8]; 2] = [

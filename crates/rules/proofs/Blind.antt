@@ -1,5 +1,5 @@
--- What a cycle doesn't look at: one that is neither translated nor reads a byte of a descriptor decides the same, whatever descriptor stands
--- at its place. Callers compare units whose tables differ.
+-- What a cycle doesn't look at: whatever descriptor stands at its place, one that is neither translated nor reads a byte of a descriptor has the
+-- same answer and the same registers after it, and changes that place in the same way. Callers compare units whose tables differ.
 -- Assumes nothing.
 use mathlib.Core.Path.{_≡_, refl, _∙_}
 use mathlib.Core.Bool.{Bool, true, false, not, _&&_, true≢false}
@@ -34,6 +34,7 @@ pub data Kindred (d e : Descriptor) : Change → Change → Type 0 where
   put : (make : Descriptor → Descriptor) → Kindred d e (Put (make d)) (Put (make e))
   raise : (mask : ℕ) → Kindred d e (Raise mask) (Raise mask)
 
+-- what is decided by the descriptor d, and what by e: the difference is not seen
 pub record Unseen (d e : Descriptor) (x y : Decision) : Type 0 where
   pub answer : x .answer ≡ y .answer
   pub registers : x .registers ≡ y .registers
@@ -97,7 +98,9 @@ module _ (r : Registers) (d e : Descriptor) (c : Cycle) where
   executed-unseen Dscr read q f = unseen-refl _
   executed-unseen (Show g) true q f = unseen-refl _
   executed-unseen (Show g) false q f = unseen-refl _
-  executed-unseen (Entry p) read q f = rw (q ∙ f) (record { answer = refl; registers = refl; change = put (λ g. replaced g (indexOf p (r .control .dscr)) (c .byte)) })
+  executed-unseen (Entry p) read q f =
+      rw (q ∙ f)
+      (record { answer = refl; registers = refl; change = put (λ g. replaced g (indexOf p (r .control .dscr)) (c .byte)) })
   executed-unseen (Act a) true q f = unseen-refl _
   executed-unseen (Act a) false q f = unseen-refl _
   executed-unseen Unlisted read q f = unseen-refl _

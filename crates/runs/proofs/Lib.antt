@@ -20,6 +20,6 @@ pub mod Pairs
 pub mod Tighter
 pub mod Others
 pub mod Needed
-pub mod Conditions
+pub mod OthersNeeded
 pub mod Apart
 pub mod Exchange

@@ -16,13 +16,13 @@ use Rattle.rules.specs.declared.Command.the-variants.{Mr, Sar, Dscr, Show, Entr
 use Rattle.rules.specs.declared.Cycle.{Cycle}
 use Rattle.rules.specs.declared.Purpose.{Purpose}
 use Rattle.rules.specs.declared.Unit.{Unit}
-use Rattle.runs.specs.Cycles.{conditions, meets, onDescriptor, descriptorRead}
+use Rattle.runs.specs.Cycles.{translationConditions, meetsConditions, onDescriptor, descriptorRead}
 use Rattle.runs.proofs.Codes.{isEntry, entry-codes}
 use Rattle.runs.proofs.Purposes.{isCommand, isMemory, command-status, memory-status}
 use Rattle.runs.proofs.Tests.{or-l}
 use Rattle.rules.specs.declared.Purpose.the-variants as purpose
 
-conditions-way : (mr : ℕ) (c : Cycle) → isTranslated (wayOf mr c) ≡ conditions mr c
+conditions-way : (mr : ℕ) (c : Cycle) → isTranslated (wayOf mr c) ≡ translationConditions mr c
 unfolding wayOf
 conditions-way mr c =
     go (lacks mr MSEN) (lacks mr TRNS) (Bool·beq (has mr URS) (has (c .segment) UPPER)) (lacks mr MST) (Bool·beq (has mr NMS) (c .normal))
@@ -45,7 +45,7 @@ shows-entry (Entry p) read = refl
 shows-entry (Act a) read = refl
 shows-entry Unlisted read = refl
 
-pub looks-told : (u : Unit) (c : Cycle) → (meets u c || descriptorRead c) ≡ false
+pub looks-told : (u : Unit) (c : Cycle) → (meetsConditions u c || descriptorRead c) ≡ false
     → (not (outOfRange c) && not (c .reset) && looks (u .registers) c) ≡ false
 looks-told u c f =
     rw (
@@ -53,8 +53,8 @@ looks-told u c f =
       shows-entry (commandOf (c .offset)) (c .read),
       entry-codes (c .offset),
     )
-    (go (outOfRange c) (c .reset) (purposeOf (c .status)) (cpu c && c .select) (conditions (u .registers .control .mr) c) (onDescriptor (c .offset))
-    (c .read) (rw (memory-status (c .status), command-status (c .status)) f))
+    (go (outOfRange c) (c .reset) (purposeOf (c .status)) (cpu c && c .select) (translationConditions (u .registers .control .mr) c)
+    (onDescriptor (c .offset)) (c .read) (rw (memory-status (c .status), command-status (c .status)) f))
   where
     go : (outside reset : Bool) (p : Purpose) (selected translated onDescriptor read : Bool)
         → (not outside && (not reset && isMemory p) && translated

@@ -17,7 +17,7 @@ use Rattle.rules.specs.declared.Change.{Change}
 use Rattle.rules.specs.declared.Cycle.{Cycle}
 use Rattle.rules.specs.declared.Registers.{Registers}
 use Rattle.rules.specs.declared.Unit.{Unit}
-use Rattle.runs.specs.Cycles.{memoryCycle, meets, descriptorCommand, descriptorRead}
+use Rattle.runs.specs.Cycles.{memoryCycle, meetsConditions, descriptorCommand, descriptorRead}
 use Rattle.runs.specs.Others.{Alike, Sized, Along, ByTicket, LooksInside, Ticket12, LooksAlone}
 use Rattle.runs.specs.Sequences.{Both}
 use Rattle.runs.proofs.Looks.{looks-told}
@@ -34,9 +34,9 @@ module _ (inside : ℕ → Bool) (a b : Unit) (c : Cycle) (h : Alike inside a b)
   -- either the cycle looks at a descriptor, which is the same in both units, or it looks at none
   step-unseen : Unseen (getD (a .table) (place a c) none) (getD (b .table) (place a c) none) (decision a c) (decision b c)
   unfolding decision decided
-  step-unseen = rw (sym (h .registers)) (go (meets a c || descriptorRead c) refl)
+  step-unseen = rw (sym (h .registers)) (go (meetsConditions a c || descriptorRead c) refl)
     where
-      go : (t : Bool) → (meets a c || descriptorRead c) ≡ t
+      go : (t : Bool) → (meetsConditions a c || descriptorRead c) ≡ t
           → Unseen (getD (a .table) (place a c) none) (getD (b .table) (place a c) none)
           (decided (a .registers) (getD (a .table) (place a c) none) c) (decided (a .registers) (getD (b .table) (place a c) none) c)
       go true e = rw (h .table (place a c) (omega arith) (may e)) (unseen-refl _)
@@ -74,16 +74,16 @@ looks-alone inside a b (c ∷ cs) n m h may =
 
 -- What the ticket asks of a cycle is more than that: one that meets the translation conditions is no command, so it looks at its own segment
 
-no-command : (u : Unit) (c : Cycle) → meets u c ≡ true → eqb (c .status) 3 ≡ false
+no-command : (u : Unit) (c : Cycle) → meetsConditions u c ≡ true → eqb (c .status) 3 ≡ false
 no-command u c e =
     let memory : memoryCycle c ≡ true = and-r (not (outOfRange c)) _ (and-l (not (outOfRange c) && memoryCycle c) _ e) in
     let high : leb 8 (c .status) ≡ true = and-l (leb 8 (c .status)) _ (and-r (not (c .reset)) _ memory) in
     ne-eqb (c .status) 3 (λ q. false≢true (rw q at high))
 
 ticket-looks : (inside : ℕ → Bool) (u : Unit) (c : Cycle) → ByTicket inside u c → LooksInside inside u c
-ticket-looks inside u c may e = go (meets u c) refl e
+ticket-looks inside u c may e = go (meetsConditions u c) refl e
   where
-    go : (t : Bool) → meets u c ≡ t → (t || descriptorRead c) ≡ true → inside (place u c) ≡ true
+    go : (t : Bool) → meetsConditions u c ≡ t → (t || descriptorRead c) ≡ true → inside (place u c) ≡ true
     go true q e = rw (own-segment (u .registers) c (no-command u c q)) (may .0 q)
     go false q e = absurd (false≢true (sym (may .1) ∙ and-l (descriptorCommand c) (c .read) e))
 

@@ -26,14 +26,14 @@ memoryCycle c = not (c .reset) && (leb 0x8 (c .status) && leb (c .status) 0xD)
 
 -- the translation conditions: neither "MSEN clear" nor "TRNS clear", "URS must equal segment bit 6, and if MST is set, NMS must equal the
 -- mode (1 for normal)"
-abbrev pub conditions : (mr : ℕ) → Cycle → Bool
-conditions mr c =
+abbrev pub translationConditions : (mr : ℕ) → Cycle → Bool
+translationConditions mr c =
     has mr MSEN && has mr TRNS && Bool·beq (has mr URS) (has (c .segment) UPPER)
     && (not (has mr MST) || Bool·beq (has mr NMS) (c .normal))
 
--- a memory cycle that is not refused and meets them, an aborted fetch or not
-abbrev pub meets : Unit → Cycle → Bool
-meets u c = not (outOfRange c) && memoryCycle c && conditions (u .registers .control .mr) c
+-- a memory cycle that 1 does not refuse and that meets them, an aborted fetch or not
+abbrev pub meetsConditions : Unit → Cycle → Bool
+meetsConditions u c = not (outOfRange c) && memoryCycle c && translationConditions (u .registers .control .mr) c
 
 -- "read-only %02 VTR, %03 VSN, %04 VOFF, %05 BCSR, %06 ISN, %07 IOFF"
 abbrev pub readOnly : (code : ℕ) → Bool
@@ -58,7 +58,7 @@ listed n = leb n 0x11 || leb 0x13 n && leb n 0x16 || eqb n 0x20
 unfoldable pub descriptorWrite : Cycle → Bool
 descriptorWrite c = not (outOfRange c) && selectedCommand c && write c && onDescriptor (c .offset)
 
--- a command that is not refused, and reads or writes a byte of a descriptor
+-- a command that 1 does not refuse, and that reads or writes a byte of a descriptor
 abbrev pub descriptorCommand : Cycle → Bool
 descriptorCommand c = not (outOfRange c) && selectedCommand c && onDescriptor (c .offset)
 

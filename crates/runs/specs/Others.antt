@@ -13,7 +13,7 @@ use Rattle.rules.specs.Runs.{answers, units}
 use Rattle.rules.specs.Step.{place, stepped}
 use Rattle.rules.specs.declared.Cycle.{Cycle}
 use Rattle.rules.specs.declared.Unit.{Unit}
-use Rattle.runs.specs.Cycles.{meets, onDescriptor, descriptorCommand, descriptorRead}
+use Rattle.runs.specs.Cycles.{meetsConditions, onDescriptor, descriptorCommand, descriptorRead}
 use Rattle.runs.specs.Sequences.{_⇒_, Both}
 use Rattle.runs.specs.Undamaged.{Undamaged}
 
@@ -42,7 +42,7 @@ Along May u (c ∷ cs) = May u c × Along May (stepped u c .unit) cs
 -- "each cycle that meets the translation conditions of document 01 names a segment whose number modulo 64 lies in the set": an aborted
 -- fetch too, since it drives an address from a descriptor
 abbrev pub NamesInside : (inside : ℕ → Bool) → Unit → Cycle → Type 0
-NamesInside inside u c = meets u c ⇒ inside (c .segment % 64)
+NamesInside inside u c = meetsConditions u c ⇒ inside (c .segment % 64)
 
 -- and "no selected command %08 to %0F occurs", read or write
 abbrev pub ByTicket : (inside : ℕ → Bool) → Unit → Cycle → Type 0
@@ -50,19 +50,20 @@ ByTicket inside u c = NamesInside inside u c × (descriptorCommand c ≡ false)
 
 -- less than that: a cycle that looks at a descriptor, to translate by it or to read a byte of it, looks at one in the set
 abbrev pub LooksInside : (inside : ℕ → Bool) → Unit → Cycle → Type 0
-LooksInside inside u c = (meets u c || descriptorRead c) ⇒ inside (place u c)
+LooksInside inside u c = (meetsConditions u c || descriptorRead c) ⇒ inside (place u c)
 
 -- Ticket 12, with what is asked of each unit, of the two together and of each cycle left open
-abbrev pub OthersUnseen : (Fit : Unit → Type 0) → (Like : (ℕ → Bool) → Unit → Unit → Type 0) → (May : (ℕ → Bool) → Unit → Cycle → Type 0) → Type 0
+abbrev pub OthersUnseen : (Fit : Unit → Type 0) → (Like : (ℕ → Bool) → Unit → Unit → Type 0) → (May : (ℕ → Bool) → Unit → Cycle → Type 0)
+    → Type 0
 OthersUnseen Fit Like May =
     (inside : ℕ → Bool) (a b : Unit) (cs : List Cycle)
-    -- "two undamaged units": damaged ones do no harm (`LooksAlone`), but both tables must have 64 descriptors (`SizeNeeded`)
+    -- "two undamaged units": damaged ones do no harm (`LooksAlone`), but the tables must be of one length (`SizeNeeded`), and 64 is the code's
     → Fit a
     → Fit b
     -- "that differ only in descriptors outside a set" (`RegistersNeeded`, `InsideNeeded`)
     → Like inside a b
-    -- "the same cycles", each as the ticket asks (`NamesNeeded`, `AbortsNeeded`, `ReadsNeeded`). The first unit's run alone is asked, since MR
-    -- is the same in the second
+    -- "the same cycles", each as the ticket asks (`NamesNeeded`, `AbortsNeeded`, `ReadsNeeded`). The first unit's run alone is asked, since the
+    -- registers are the same in the second
     → Along (May inside) a cs
     -- "all answers are the same at every cycle, refusals [..] included", and "every register but those descriptors is equal in the two units
     -- after each cycle"
@@ -96,7 +97,8 @@ NamesNeeded = OthersUnseen Undamaged Alike (λ inside u c. descriptorCommand c �
 
 -- all of the ticket's conditions, but aborted fetches may name any segment
 abbrev pub AbortsAnywhere : (inside : ℕ → Bool) → Unit → Cycle → Type 0
-AbortsAnywhere inside u c = ((meets u c && not (aborts (u .registers) c)) ⇒ inside (c .segment % 64)) × (descriptorCommand c ≡ false)
+AbortsAnywhere inside u c =
+    ((meetsConditions u c && not (aborts (u .registers) c)) ⇒ inside (c .segment % 64)) × (descriptorCommand c ≡ false)
 
 -- CLAIM: aborted fetches among them. One outside the set drives another address.
 abbrev pub AbortsNeeded : Type 0

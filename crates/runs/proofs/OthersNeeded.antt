@@ -1,4 +1,4 @@
--- Why ticket 12 needs each of its conditions: runs that antt computes.
+-- Why ticket 12 needs its conditions: runs that antt computes.
 -- Assumes nothing.
 use mathlib.Core.Path.{_≡_, refl, sym, _∙_, ap}
 use mathlib.Core.Bool.{Bool, true, false, not, _&&_, and-false, true≢false, false≢true}
@@ -14,7 +14,7 @@ use Rattle.rules.specs.Refusals.{damaged, outOfRange, plain}
 use Rattle.rules.specs.Rows.{segment}
 use Rattle.rules.specs.Runs.{answers, final}
 use Rattle.rules.specs.Status.{ignored, purposeOf, byStatus}
-use Rattle.rules.specs.Checks.{rightsOf, outOfLength, warns}
+use Rattle.rules.specs.Checks.{rightsOf, outOfLength}
 use Rattle.rules.specs.Recording.{eventOf, busStatus, firstEntry, recorded}
 use Rattle.rules.specs.Memory.{seen, begun, touchedBy, noted, checked, accessed, aborted, memory}
 use Rattle.rules.specs.Translation.{wayOf, blockOf, linesOf}
@@ -35,7 +35,7 @@ use Rattle.runs.proofs.Examples.{unit, cycle, unit-undamaged}
 use Rattle.runs.proofs.Tests.{at, and-r}
 use Rattle.runs.proofs.Undamaged.{undamaged-from-power-on}
 
--- Two units that differ in segment 0 alone, in every byte that a read can show. Segment 2 is read-only in both.
+-- Two units that differ in segment 0 alone, in every byte that a read with DSCR 0 shows. Segment 2 is read-only in both.
 
 abbrev locked : Descriptor
 locked = segment 0x3000 0xFF RD
@@ -66,14 +66,14 @@ abbrev elsewhere : List Answer → Bool
 elsewhere l = all (λ (x : Answer). not (eqb (x .lines .block) 0x2000)) l
 
 pub inside-needed : InsideNeeded
-unfolding Along answers outOfRange damaged decision decided placeOf purposeOf byStatus memory accessed checked seen rightsOf outOfLength warns wayOf blockOf linesOf
+unfolding Along answers outOfRange damaged decision decided placeOf purposeOf byStatus memory accessed checked seen wayOf blockOf linesOf
 inside-needed claim =
     true≢false
     (ap elsewhere
     (claim (λ i. true) left right (readZero ∷ []) (unit-undamaged _ _ _) (unit-undamaged _ _ _) refl ((λ e. refl, refl), refl) .0))
 
 pub names-needed : NamesNeeded
-unfolding Along answers outOfRange damaged decision decided placeOf purposeOf byStatus memory accessed checked seen rightsOf outOfLength warns wayOf blockOf linesOf
+unfolding Along answers outOfRange damaged decision decided placeOf purposeOf byStatus memory accessed checked seen wayOf blockOf linesOf
 names-needed claim =
     true≢false
     (ap elsewhere (claim mine left right (readZero ∷ []) (unit-undamaged _ _ _) (unit-undamaged _ _ _) alike (refl, refl) .0))
@@ -84,7 +84,7 @@ abbrev faultThenFetch : List Cycle
 faultThenFetch = cycle 8 false false 2 0 0 ∷ cycle 13 true false 0 0 0 ∷ []
 
 pub aborts-needed : AbortsNeeded
-unfolding Along answers outOfRange damaged decision decided placeOf changed after purposeOf byStatus seen begun touchedBy noted checked accessed aborted memory eventOf busStatus firstEntry recorded rightsOf outOfLength warns wayOf blockOf linesOf
+unfolding Along answers outOfRange damaged decision decided placeOf changed after purposeOf byStatus seen begun touchedBy noted checked accessed aborted memory eventOf busStatus firstEntry recorded rightsOf outOfLength wayOf blockOf linesOf
 aborts-needed claim =
     true≢false
     (ap elsewhere
@@ -103,13 +103,13 @@ abbrev firstByte : List Answer → ℕ
 firstByte [] = 0
 firstByte (x ∷ l) = x .byte
 
-abbrev told : (code : ℕ) → Bool
-told code = not (onDescriptor code && eqb (shown left code) (shown right code))
+abbrev differs : (code : ℕ) → Bool
+differs code = not (onDescriptor code && eqb (shown left code) (shown right code))
 
-each-told : (code : ℕ) → onDescriptor code ≡ true → eqb (shown left code) (shown right code) ≡ false
+each-differs : (code : ℕ) → onDescriptor code ≡ true → eqb (shown left code) (shown right code) ≡ false
 unfolding outOfRange damaged decision decided placeOf purposeOf byStatus commandOf commanded executed entry given byteOf indexOf
-each-told code e =
-    not-true _ (rw e at (at 16 told refl code (omega (arith, leb-true code 15 (and-r (leb 8 code) _ e)))))
+each-differs code e =
+    not-true _ (rw e at (at 16 differs refl code (omega (arith, leb-true code 15 (and-r (leb 8 code) _ e)))))
 
 -- a read of the one code is all that is excused
 reads-may : (code : ℕ) → MayRead code mine left (reads code)
@@ -122,7 +122,7 @@ unfolding Along answers
 reads-needed code e claim =
     let same : answers left (reads code ∷ []) ≡ answers right (reads code ∷ []) =
     claim mine left right (reads code ∷ []) (unit-undamaged _ _ _) (unit-undamaged _ _ _) alike (reads-may code, refl) .0 in
-    false≢true (sym (each-told code e) ∙ eq-eqb _ _ (ap firstByte same))
+    false≢true (sym (each-differs code e) ∙ eq-eqb _ _ (ap firstByte same))
 
 -- The registers. The trap line stands in the second unit alone; the cycle has status 0 and is ignored.
 
@@ -140,7 +140,7 @@ bare : Unit
 bare = record { table = []; registers = unit none none none .registers }
 
 pub size-needed : SizeNeeded
-unfolding bare Along answers outOfRange damaged decision decided placeOf changed after purposeOf byStatus commandOf commanded executed acted plain memory accessed checked seen rightsOf outOfLength warns wayOf begun
+unfolding bare Along answers outOfRange damaged decision decided placeOf changed after purposeOf byStatus commandOf commanded executed acted plain memory accessed checked seen rightsOf outOfLength wayOf begun
 size-needed claim =
     true≢false
     (ap (all (λ (x : Answer). not (x .sup)))
