@@ -48,7 +48,7 @@ unseen-refl {d} {e} x = record { answer = refl; registers = refl; change = go (x
     go (Put f) = put (λ g. f)
     go (Raise mask) = raise mask
 
--- What looks
+-- What looks: a memory cycle that is translated, and a command that drives a byte of the descriptor at SAR
 
 abbrev pub isTranslated : Way → Bool
 isTranslated way.Translated = true
