@@ -426,7 +426,9 @@ fn the_stored_captures_differ_where_the_manual_says() {
     ];
     let [one, other] = traces.map(|trace| trace[7..].chunks(4).collect::<Vec<_>>());
     assert_eq!(differing(&one, &other), [1, 2, 3, 4]);
-    let [one, other] = traces.map(|trace| String::from_utf8(Document01::run(trace)).unwrap());
-    let lines = |text: &'_ str| text.lines().skip(1).map(String::from).collect::<Vec<_>>();
-    assert_eq!(differing(&lines(&one), &lines(&other)), [32, 33, 34, 35]);
+    let texts = traces.map(|trace| String::from_utf8(Document01::run(trace)).unwrap());
+    let [one, other] = texts
+        .each_ref()
+        .map(|text| text.lines().skip(1).collect::<Vec<_>>());
+    assert_eq!(differing(&one, &other), [32, 33, 34, 35]);
 }

@@ -1,13 +1,10 @@
--- Units and cycles that counterexamples are made of.
+-- Units that counterexamples are made of. `Rows` of the rules has their descriptors and cycles.
 -- Assumes nothing.
 use mathlib.Core.Path.{refl}
-use mathlib.Core.Bool.{Bool, false}
 use mathlib.Core.List.{_∷_}
-use Prim.Native.Nat.{ℕ}
 use lib.ListN.{replicate}
 use Rattle.rules.specs.PowerOn.{none, quiet, powerOn}
 use Rattle.rules.specs.Refusals.{damaged}
-use Rattle.rules.specs.declared.Cycle.{Cycle}
 use Rattle.rules.specs.declared.Descriptor.{Descriptor}
 use Rattle.rules.specs.declared.Unit.{Unit}
 use Rattle.runs.specs.Undamaged.{Undamaged}
@@ -22,20 +19,6 @@ unit x y z = record {
     fetched = powerOn .registers .fetched;
     notes = quiet;
   };
-}
-
--- a CPU cycle in system mode
-abbrev pub cycle : (status : ℕ) → (read select : Bool) → (segment offset byte : ℕ) → Cycle
-cycle status read select segment offset byte = record {
-  status = status;
-  read = read;
-  normal = false;
-  dma = false;
-  select = select;
-  segment = segment;
-  offset = offset;
-  byte = byte;
-  reset = false;
 }
 
 pub unit-undamaged : (x y z : Descriptor) → Undamaged (unit x y z)

@@ -9,7 +9,7 @@ use Rattle.rules.specs.Masks.{RD, CPUI, DIRW}
 use lib.Dec.{lit≤}
 use Rattle.rules.specs.PowerOn.{none}
 use Rattle.rules.specs.Refusals.{damaged, outOfRange}
-use Rattle.rules.specs.Rows.{segment}
+use Rattle.rules.specs.Rows.{segment, cycle, command}
 use Rattle.rules.specs.Runs.{answers}
 use Rattle.rules.specs.Status.{purposeOf, byStatus}
 use Rattle.rules.specs.Checks.{rightsOf, outOfLength, warns}
@@ -24,7 +24,7 @@ use Rattle.rules.specs.declared.Cycle.{Cycle}
 use Rattle.rules.specs.declared.Descriptor.{Descriptor}
 use Rattle.runs.specs.Cycles.{descriptorWrite}
 use Rattle.runs.specs.Tighter.{Wider, Loosened, before, StopNeeded, WritesExcluded}
-use Rattle.runs.proofs.Examples.{unit, cycle, unit-undamaged}
+use Rattle.runs.proofs.Examples.{unit, unit-undamaged}
 use Rattle.runs.proofs.Wider.{wider-refl}
 
 unit-loosened : (x y x' y' z : Descriptor) → Wider x x' → Wider y y' → Loosened (unit x y z) (unit x' y' z)
@@ -48,7 +48,7 @@ closed : Descriptor
 closed = segment 0x2000 0xFF CPUI
 
 faultThenFetch : List Cycle
-faultThenFetch = cycle 8 false false 1 0 0 ∷ cycle 13 true false 2 0 0 ∷ []
+faultThenFetch = cycle false false false 8 1 0 ∷ cycle false true false 13 2 0 ∷ []
 
 writable-wider : Wider readOnly writable
 unfolding readOnly writable
@@ -79,7 +79,7 @@ long : Descriptor
 long = segment 0 0x20 0
 
 turnThenRead : List Cycle
-turnThenRead = cycle 3 false true 0 0x0A DIRW ∷ cycle 8 true false 0 0x18 0 ∷ []
+turnThenRead = command false 0x0A DIRW ∷ cycle false true false 8 0 0x18 ∷ []
 
 long-wider : Wider short long
 unfolding short long

@@ -11,7 +11,7 @@ use borrow.Author.Tests.{eq-eqb, eqb-true, leb-true, not-true}
 use Rattle.rules.specs.Masks.{RD}
 use Rattle.rules.specs.PowerOn.{none, powerOn}
 use Rattle.rules.specs.Refusals.{damaged, outOfRange, plain}
-use Rattle.rules.specs.Rows.{segment}
+use Rattle.rules.specs.Rows.{segment, cycle, command}
 use Rattle.rules.specs.Runs.{answers, final}
 use Rattle.rules.specs.Status.{ignored, purposeOf, byStatus}
 use Rattle.rules.specs.Checks.{rightsOf, outOfLength}
@@ -31,7 +31,7 @@ use Rattle.runs.specs.Others.{Alike, Along, MayRead, RegistersNeeded, In
 use Rattle.runs.specs.Others.{ReadsNeeded}
 use Rattle.runs.specs.Sequences.{all}
 use Rattle.runs.specs.Trap.{requesting}
-use Rattle.runs.proofs.Examples.{unit, cycle, unit-undamaged}
+use Rattle.runs.proofs.Examples.{unit, unit-undamaged}
 use Rattle.runs.proofs.Tests.{at, and-r}
 use Rattle.runs.proofs.Undamaged.{undamaged-from-power-on}
 
@@ -59,29 +59,31 @@ alike = record { registers = refl; table = entries }
     entries (suc (suc i)) low e = refl
 
 abbrev readZero : Cycle
-readZero = cycle 8 true false 0 0 0
+readZero = cycle false true false 8 0 0
 
 -- no answer drives the second unit's block of segment 0
 abbrev elsewhere : List Answer → Bool
 elsewhere l = all (λ (x : Answer). not (eqb (x .lines .block) 0x2000)) l
 
+read-tells : answers left (readZero ∷ []) ≡ answers right (readZero ∷ []) → ⊥
+unfolding answers outOfRange damaged decision decided placeOf purposeOf byStatus memory accessed checked seen wayOf blockOf linesOf
+read-tells same = true≢false (ap elsewhere same)
+
 pub inside-needed : InsideNeeded
-unfolding Along answers outOfRange damaged decision decided placeOf purposeOf byStatus memory accessed checked seen wayOf blockOf linesOf
+unfolding Along outOfRange
 inside-needed claim =
-    true≢false
-    (ap elsewhere
-    (claim (λ i. true) left right (readZero ∷ []) (unit-undamaged _ _ _) (unit-undamaged _ _ _) refl ((λ e. refl, refl), refl) .0))
+    read-tells
+    (claim (λ i. true) left right (readZero ∷ []) (unit-undamaged _ _ _) (unit-undamaged _ _ _) refl ((λ e. refl, refl), refl) .0)
 
 pub names-needed : NamesNeeded
-unfolding Along answers outOfRange damaged decision decided placeOf purposeOf byStatus memory accessed checked seen wayOf blockOf linesOf
+unfolding Along outOfRange
 names-needed claim =
-    true≢false
-    (ap elsewhere (claim mine left right (readZero ∷ []) (unit-undamaged _ _ _) (unit-undamaged _ _ _) alike (refl, refl) .0))
+    read-tells (claim mine left right (readZero ∷ []) (unit-undamaged _ _ _) (unit-undamaged _ _ _) alike (refl, refl) .0)
 
 -- Aborted fetches. A write to segment 2 is a violation in both units, and the fetch after it is the aborted one.
 
 abbrev faultThenFetch : List Cycle
-faultThenFetch = cycle 8 false false 2 0 0 ∷ cycle 13 true false 0 0 0 ∷ []
+faultThenFetch = cycle false false false 8 2 0 ∷ cycle false true false 13 0 0 ∷ []
 
 pub aborts-needed : AbortsNeeded
 unfolding Along answers outOfRange damaged decision decided placeOf changed after purposeOf byStatus seen begun touchedBy noted checked accessed aborted memory eventOf busStatus firstEntry recorded rightsOf outOfLength wayOf blockOf linesOf
@@ -94,7 +96,7 @@ aborts-needed claim =
 -- Reads of %08 to %0F, SAR 0 and DSCR 0
 
 abbrev reads : (code : ℕ) → Cycle
-reads code = cycle 3 true true 0 code 0
+reads code = command true code 0
 
 abbrev shown : Unit → (code : ℕ) → ℕ
 shown u code = stepped u (reads code) .answer .byte
@@ -131,7 +133,7 @@ unfolding Along answers final damaged outOfRange decision decided placeOf purpos
 registers-needed claim =
     true≢false
     (ap (all (λ (x : Answer). not (x .trap)))
-    (claim mine powerOn requesting (cycle 0 true false 0 0 0 ∷ []) (undamaged-from-power-on []) (record { size = refl; sound = refl })
+    (claim mine powerOn requesting (cycle false true false 0 0 0 ∷ []) (undamaged-from-power-on []) (record { size = refl; sound = refl })
     (λ i low e. refl) ((λ e. absurd (false≢true e), refl), refl) .0))
 
 -- The 64 descriptors. The first unit has none: set all CPUI closes segment 0 in the second alone, which suppresses the read.
@@ -144,7 +146,7 @@ unfolding bare Along answers outOfRange damaged decision decided placeOf changed
 size-needed claim =
     true≢false
     (ap (all (λ (x : Answer). not (x .sup)))
-    (claim (λ i. eqb i 0) bare (unit none none none) (cycle 3 false true 0 0x15 0 ∷ readZero ∷ []) refl refl
+    (claim (λ i. eqb i 0) bare (unit none none none) (command false 0x15 0 ∷ readZero ∷ []) refl refl
     (record { registers = refl; table = entries })
     ((λ e. absurd (false≢true e), refl), ((λ e. refl, refl), refl)) .0))
   where
