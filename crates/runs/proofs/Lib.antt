@@ -13,6 +13,7 @@ pub mod Examples
 pub mod Orphans
 pub mod Undamaged
 pub mod Refusal
+pub mod Answers
 pub mod Trap
 pub mod Notes
 pub mod Wider

@@ -22,7 +22,7 @@ use Rattle.runs.proofs.Purposes.{isCommand, isMemory, command-status, m
 use Rattle.runs.proofs.Tests.{or-l}
 use Rattle.rules.specs.declared.Purpose.the-variants as purpose
 
-conditions-way : (mr : ℕ) (c : Cycle) → isTranslated (wayOf mr c) ≡ translationConditions mr c
+pub conditions-way : (mr : ℕ) (c : Cycle) → isTranslated (wayOf mr c) ≡ translationConditions mr c
 unfolding wayOf
 conditions-way mr c =
     go (lacks mr MSEN) (lacks mr TRNS) (Bool·beq (has mr URS) (has (c .segment) UPPER)) (lacks mr MST) (Bool·beq (has mr NMS) (c .normal))

@@ -18,8 +18,8 @@ use Rattle.rules.specs.declared.Cycle.{Cycle}
 use Rattle.rules.specs.declared.Registers.{Registers}
 use Rattle.rules.specs.declared.Unit.{Unit}
 use Rattle.runs.specs.Cycles.{memoryCycle, meetsConditions, descriptorCommand, descriptorRead}
-use Rattle.runs.specs.Others.{Alike, Sized, Along, ByTicket, LooksInside, Ticket12, LooksAlone}
-use Rattle.runs.specs.Sequences.{Both}
+use Rattle.runs.specs.Others.{Alike, Sized, ByTicket, LooksInside, Ticket12, LooksAlone}
+use Rattle.runs.specs.Sequences.{Both, Along}
 use Rattle.runs.proofs.Looks.{looks-told}
 use Rattle.runs.proofs.Tables.{set-both, at-map}
 use Rattle.runs.proofs.Tests.{and-l, and-r}

@@ -27,9 +27,9 @@ use Rattle.rules.specs.declared.Cycle.{Cycle}
 use Rattle.rules.specs.declared.Descriptor.{Descriptor}
 use Rattle.rules.specs.declared.Unit.{Unit}
 use Rattle.runs.specs.Cycles.{onDescriptor}
-use Rattle.runs.specs.Others.{Alike, Along, MayRead, RegistersNeeded, InsideNeeded, SizeNeeded, NamesNeeded, AbortsNeeded}
+use Rattle.runs.specs.Others.{Alike, MayRead, RegistersNeeded, InsideNeeded, SizeNeeded, NamesNeeded, AbortsNeeded}
 use Rattle.runs.specs.Others.{ReadsNeeded}
-use Rattle.runs.specs.Sequences.{all}
+use Rattle.runs.specs.Sequences.{Along, all}
 use Rattle.runs.specs.Trap.{requesting}
 use Rattle.runs.proofs.Examples.{unit, unit-undamaged}
 use Rattle.runs.proofs.Tests.{at, and-r}

@@ -36,9 +36,10 @@ use Rattle.rules.specs.declared.Lines.{Lines}
 use Rattle.rules.specs.declared.Purpose.{Purpose}
 use Rattle.rules.specs.declared.Registers.{Registers}
 use Rattle.rules.specs.declared.Way.{Way}
+use Rattle.runs.specs.Answers.{isAborted}
 use Rattle.runs.specs.Cycles.{onDescriptor}
 use Rattle.runs.specs.Sequences.{_⇒_}
-use Rattle.runs.specs.Tighter.{Wider, isAborted}
+use Rattle.runs.specs.Tighter.{Wider}
 use Rattle.runs.proofs.Codes.{isEntry, entry-codes}
 use Rattle.runs.proofs.Purposes.{isCommand, command-status}
 use Rattle.runs.proofs.Tables.{set-at, map-at}

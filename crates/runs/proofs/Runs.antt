@@ -8,14 +8,13 @@ use Rattle.rules.specs.Step.{stepped}
 use Rattle.rules.specs.declared.Answer.{Answer}
 use Rattle.rules.specs.declared.Cycle.{Cycle}
 use Rattle.rules.specs.declared.Unit.{Unit}
-use Rattle.runs.specs.Sequences.{Every}
-use Rattle.runs.proofs.Tests.{every}
+use Rattle.runs.specs.Sequences.{Every, Along}
 
 -- where each cycle is a Q, and each such step keeps P and answers an A, a run does
-pub kept : (Q : Cycle → Type 0) (P : Unit → Type 0) (A : Answer → Type 0)
-    → ((u : Unit) (c : Cycle) → Q c → P u → A (stepped u c .answer) × P (stepped u c .unit))
-    → (cs : List Cycle) (u : Unit) → Every Q cs → P u → Every A (answers u cs) × P (final u cs)
-unfolding answers final
+pub kept : (Q : Unit → Cycle → Type 0) (P : Unit → Type 0) (A : Answer → Type 0)
+    → ((u : Unit) (c : Cycle) → Q u c → P u → A (stepped u c .answer) × P (stepped u c .unit))
+    → (cs : List Cycle) (u : Unit) → Along Q u cs → P u → Every A (answers u cs) × P (final u cs)
+unfolding answers final Along
 kept Q P A step [] u q p = (refl, p)
 kept Q P A step (c ∷ cs) u q p =
     let now : A (stepped u c .answer) × P (stepped u c .unit) = step u c (q .0) p in
@@ -24,8 +23,13 @@ kept Q P A step (c ∷ cs) u q p =
 
 -- what every step keeps, every run keeps
 pub always : (P : Unit → Type 0) → ((u : Unit) (c : Cycle) → P u → P (stepped u c .unit)) → (u : Unit) (cs : List Cycle) → P u → P (final u cs)
+unfolding Along
 always P step u cs p =
-    kept (λ c. true ≡ true) P (λ x. true ≡ true) (λ u c q p. (refl, step u c p)) cs u (every _ (λ c. refl) cs) p .1
+    kept (λ u c. true ≡ true) P (λ x. true ≡ true) (λ u c q p. (refl, step u c p)) cs u (along cs u) p .1
+  where
+    along : (cs : List Cycle) (u : Unit) → Along (λ u c. true ≡ true) u cs
+    along [] u = refl
+    along (c ∷ cs) u = (refl, along cs (stepped u c .unit))
 
 -- and it holds after each cycle on the way
 pub throughout : (P : Unit → Type 0) → ((u : Unit) (c : Cycle) → P u → P (stepped u c .unit)) → (u : Unit) (cs : List Cycle) → P u → Every P (units u cs)

@@ -63,10 +63,6 @@ at zero p e k h = absurd (not-suc-le-zero h)
 at (suc n) p e zero h = and-l (p 0) _ e
 at (suc n) p e (suc k) h = at n (λ j. p (suc j)) (and-r (p 0) _ e) k (le-of-suc-le-suc h)
 
-pub every : {A : Type 0} (P : A → Type 0) → ((x : A) → P x) → (l : List A) → Every P l
-every P h [] = refl
-every P h (x ∷ l) = (h x, every P h l)
-
 -- what holds of each number in a list holds of a number that is in it
 pub of-each : (P : ℕ → Type 0) (l : List ℕ) → Every P l → (n : ℕ) → among n l ≡ true → P n
 of-each P [] h n e = absurd (false≢true e)

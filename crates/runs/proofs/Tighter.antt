@@ -16,11 +16,12 @@ use Rattle.rules.specs.declared.Control.{Control}
 use Rattle.rules.specs.declared.Cycle.{Cycle}
 use Rattle.rules.specs.declared.Descriptor.{Descriptor}
 use Rattle.rules.specs.declared.Unit.{Unit}
+use Rattle.runs.specs.Answers.{abortedFetch}
 use Rattle.runs.specs.Cycles.{descriptorWrite}
 use Rattle.runs.specs.Sequences.{_⇒_, Every, Both}
-use Rattle.runs.specs.Tighter.{Wider, Covers, abortedFetch, before, NoDescriptorWrite, TighterCovers, Demand3}
-use Rattle.runs.specs.Tighter.{StopInFirst}
+use Rattle.runs.specs.Tighter.{Wider, Covers, before, NoDescriptorWrite, TighterCovers, Demand3, StopInFirst}
 use Rattle.runs.specs.Undamaged.{Undamaged}
+use Rattle.runs.proofs.Answers.{aborted-exactly}
 use Rattle.runs.proofs.Pairs.{Paired, decided-paired, Wide, decided-wide}
 use Rattle.runs.proofs.Tests.{or-l}
 use Rattle.runs.proofs.Undamaged.{undamaged-after}
@@ -45,7 +46,7 @@ module _ (a b : Unit) (c : Cycle) (h : Loose a b) where
   step-paired x =
       rw (h .tight .sound, h .slack .sound)
       (decided-paired (a .registers) (b .registers) c (h .control) (h .hold) (rw same-place (h .table (place b c))) (outOfRange c) (c .reset)
-      (rw (h .tight .sound) at x))
+      (rw (h .tight .sound) at (aborted-exactly a c ∙ x)))
 
   step-wide : descriptorWrite c ≡ false → Wide (after a c .table) (after b c .table)
   unfolding after decision decided descriptorWrite

@@ -38,13 +38,13 @@ became-requests (begins starts) e h = h
 became-requests {c} {r} (records starts event small stores holds) e h =
     by-row Requests (begun r starts) c event h (λ n p. refl) (λ p. h) (λ flag p. rw h)
 
-request-stands : (u : Unit) (c : Cycle) → takesBack c ≡ false → Requests (u .registers) → Requests (stepped u c .unit .registers)
+request-stands : (u : Unit) (c : Cycle) → takesBack u c ≡ false → Requests (u .registers) → Requests (stepped u c .unit .registers)
 unfolding after
 request-stands u c = became-requests (made u c .became)
 
 pub trap-stands : TrapStands
 trap-stands u cs h q =
-    kept (λ c. takesBack c ≡ false) (λ u. Requests (u .registers)) (λ x. x .trap ≡ true)
+    kept (λ u c. takesBack u c ≡ false) (λ u. Requests (u .registers)) (λ x. x .trap ≡ true)
     (λ u c e h. (trap-shows u c ∙ request-stands u c e h, request-stands u c e h)) cs u q h .0
 
 pub each-takes-back : EachTakesBack

@@ -186,8 +186,9 @@ module _ (c : Cycle) (r : Registers) (d : Descriptor) where
 
   decided-made : (two one reset : Bool)
       → Made
-      (reset || not reset && eqb (c .status) 4 && cpu c
-      || not reset && eqb (c .status) 3 && (cpu c && c .select) && write c && eqb (c .offset) 0x10)
+      (not two && not one
+      && (reset || not reset && eqb (c .status) 4 && cpu c
+      || not reset && eqb (c .status) 3 && (cpu c && c .select) && write c && eqb (c .offset) 0x10))
       c r (decidedBy two one reset r d c)
   unfolding refused plain resetBy restarted byStatus
   decided-made true one reset = record { shown = refl; became = stayed }
@@ -197,6 +198,6 @@ module _ (c : Cycle) (r : Registers) (d : Descriptor) where
       rw (← command-status (c .status), ← acknowledge-status (c .status), ← software-reset-code (c .offset))
       (purpose-made (purposeOf (c .status)) (cpu c) (cpu c && c .select))
 
-pub made : (u : Unit) (c : Cycle) → Made (takesBack c) c (u .registers) (decision u c)
+pub made : (u : Unit) (c : Cycle) → Made (takesBack u c) c (u .registers) (decision u c)
 unfolding decision decided
 made u c = decided-made c (u .registers) _ (damaged (u .registers)) (outOfRange c) (c .reset)

@@ -24,6 +24,14 @@ acknowledge c = not (c .reset) && eqb (c .status) 4 && cpu c
 abbrev pub memoryCycle : Cycle → Bool
 memoryCycle c = not (c .reset) && (leb 0x8 (c .status) && leb (c .status) 0xD)
 
+-- "A CPU read with status %D starts an instruction", with the reset line off; "A write with status %D starts nothing"
+abbrev pub fetches : Cycle → Bool
+fetches c = not (c .reset) && (cpu c && c .read && eqb (c .status) 0xD)
+
+-- "MSEN clear: not driven. TRNS clear: [..] unchecked": passed is what has MSEN set and TRNS clear
+abbrev pub passingConditions : (mr : ℕ) → Bool
+passingConditions mr = has mr MSEN && not (has mr TRNS)
+
 -- the translation conditions: neither "MSEN clear" nor "TRNS clear", "URS must equal segment bit 6, and if MST is set, NMS must equal the
 -- mode (1 for normal)"
 abbrev pub translationConditions : (mr : ℕ) → Cycle → Bool

@@ -4,6 +4,7 @@ pub mod Cycles
 pub mod Orphans
 pub mod Undamaged
 pub mod Refusal
+pub mod Answers
 pub mod Trap
 pub mod Notes
 pub mod Tighter

@@ -2,19 +2,19 @@
 -- Assumes nothing.
 use mathlib.Core.Path.{_≡_}
 use mathlib.Core.Bool.{Bool, true, false, not, _&&_, _||_}
-use mathlib.Core.List.{List, [], _∷_}
+use mathlib.Core.List.{List}
 use Prim.Native.Nat.{ℕ, _%_, _<_}
 use lib.Dec.{eqb}
 use lib.ListN.{length, getD}
-use Rattle.rules.specs.Memory.{aborts}
 use Rattle.rules.specs.PowerOn.{none}
 use Rattle.rules.specs.Refusals.{damaged}
 use Rattle.rules.specs.Runs.{answers, units}
-use Rattle.rules.specs.Step.{place, stepped}
+use Rattle.rules.specs.Step.{place}
 use Rattle.rules.specs.declared.Cycle.{Cycle}
 use Rattle.rules.specs.declared.Unit.{Unit}
+use Rattle.runs.specs.Answers.{awaited}
 use Rattle.runs.specs.Cycles.{meetsConditions, onDescriptor, descriptorCommand, descriptorRead}
-use Rattle.runs.specs.Sequences.{_⇒_, Both}
+use Rattle.runs.specs.Sequences.{_⇒_, Both, Along}
 use Rattle.runs.specs.Undamaged.{Undamaged}
 
 -- Units. A set of segments is a test `inside` of their numbers modulo 64, any at all.
@@ -33,11 +33,6 @@ abbrev pub Sized : Unit → Type 0
 Sized u = length (u .table) ≡ 64
 
 -- Cycles
-
--- each cycle of a run is as said of it and of the unit that it meets
-unfoldable pub Along : (May : Unit → Cycle → Type 0) → Unit → List Cycle → Type 0
-Along May u [] = true ≡ true
-Along May u (c ∷ cs) = May u c × Along May (stepped u c .unit) cs
 
 -- "each cycle that meets the translation conditions of document 01 names a segment whose number modulo 64 lies in the set": an aborted
 -- fetch too, since it drives an address from a descriptor
@@ -98,7 +93,7 @@ NamesNeeded = OthersUnseen Undamaged Alike (λ inside u c. descriptorCommand c �
 -- all of the ticket's conditions, but aborted fetches may name any segment
 abbrev pub AbortsAnywhere : (inside : ℕ → Bool) → Unit → Cycle → Type 0
 AbortsAnywhere inside u c =
-    ((meetsConditions u c && not (aborts (u .registers) c)) ⇒ inside (c .segment % 64)) × (descriptorCommand c ≡ false)
+    ((meetsConditions u c && not (awaited u c)) ⇒ inside (c .segment % 64)) × (descriptorCommand c ≡ false)
 
 -- CLAIM: aborted fetches among them. One outside the set drives another address.
 abbrev pub AbortsNeeded : Type 0

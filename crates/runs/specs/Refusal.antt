@@ -42,11 +42,16 @@ earliest false false true four = some 3
 earliest false false false true = some 4
 earliest false false false false = none
 
+abbrev pub refusalOf : Unit → Cycle → Option ℕ
+refusalOf u c = earliest (damaged (u .registers)) (outOfRange c) (unlisted c) (wrongWay c)
+
+-- refused neither by 2 nor by 1, which any cycle may meet; 3 and 4 are for selected commands alone
+abbrev pub admitted : Unit → Cycle → Bool
+admitted u c = not (damaged (u .registers)) && not (outOfRange c)
+
 -- CLAIM: of every unit and every cycle, the answer gives the number whose condition is met, and no number where none is.
 abbrev pub NumbersExactly : Type 0
-NumbersExactly =
-    (u : Unit) (c : Cycle)
-    → numberIn (stepped u c .answer .kind) ≡ earliest (damaged (u .registers)) (outOfRange c) (unlisted c) (wrongWay c)
+NumbersExactly = (u : Unit) (c : Cycle) → numberIn (stepped u c .answer .kind) ≡ refusalOf u c
 
 -- "address and data not driven, SUP off, trap line as the request stood; unit unchanged"; "An address or data byte that isn't driven
 -- is marked so and has the value 0."

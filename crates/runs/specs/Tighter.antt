@@ -13,10 +13,8 @@ use Rattle.rules.specs.Step.{stepped}
 use Rattle.rules.specs.declared.Answer.{Answer}
 use Rattle.rules.specs.declared.Cycle.{Cycle}
 use Rattle.rules.specs.declared.Descriptor.{Descriptor}
-use Rattle.rules.specs.declared.Kind.{Kind}
-use Rattle.rules.specs.declared.Kind.the-variants.{Reset, Acknowledge, Command, Aborted, Translated, Passed, Ignored}
-use Rattle.rules.specs.declared.Kind.the-variants.{Refused}
 use Rattle.rules.specs.declared.Unit.{Unit}
+use Rattle.runs.specs.Answers.{abortedFetch}
 use Rattle.runs.specs.Cycles.{descriptorWrite}
 use Rattle.runs.specs.Sequences.{_⇒_, Every, Both}
 use Rattle.runs.specs.Undamaged.{Undamaged}
@@ -39,20 +37,6 @@ pub record Loosened (a b : Unit) : Type 0 where
 pub record Covers (x y : Answer) : Type 0 where
   pub lines : x .lines ≡ y .lines
   pub sup : y .sup ⇒ x .sup
-
-abbrev pub isAborted : Kind → Bool
-isAborted Reset = false
-isAborted Acknowledge = false
-isAborted Command = false
-isAborted Aborted = true
-isAborted Translated = false
-isAborted Passed = false
-isAborted Ignored = false
-isAborted (Refused n) = false
-
--- a cycle is an aborted fetch in a unit: its answer's kind says so
-abbrev pub abortedFetch : Unit → Cycle → Bool
-abortedFetch u c = isAborted (stepped u c .answer .kind)
 
 -- where to stop: at an aborted fetch in either unit; in the first; nowhere
 abbrev pub inEither : Unit → Unit → Cycle → Bool
