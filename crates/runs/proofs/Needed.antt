@@ -1,7 +1,7 @@
 -- Why demand 3 needs its stop and leaves out writes to descriptors: two runs that antt computes.
 -- Assumes nothing.
-use mathlib.Core.Path.{refl}
-use mathlib.Core.Bool.{true, false, false≢true}
+use mathlib.Core.Path.{_≡_, refl, subst}
+use mathlib.Core.Bool.{Bool, true, false, false≢true}
 use mathlib.Core.List.{List, [], _∷_}
 use Prim.Native.Nat.{ℕ, zero, suc, _<_}
 use lib.ListN.{getD}
@@ -22,8 +22,11 @@ use Rattle.rules.specs.Commands.{given, controlled, entry, executed, commanded}
 use Rattle.rules.specs.Step.{decided, placeOf, changed, decision, after}
 use Rattle.rules.specs.declared.Cycle.{Cycle}
 use Rattle.rules.specs.declared.Descriptor.{Descriptor}
+use Rattle.rules.specs.declared.Unit.{Unit}
 use Rattle.runs.specs.Cycles.{descriptorWrite}
-use Rattle.runs.specs.Tighter.{Wider, Loosened, before, StopNeeded, WritesExcluded}
+use Rattle.runs.specs.Sequences.{Both}
+use Rattle.runs.specs.Tighter.{Wider, Loosened, Covers, before, NoDescriptorWrite, TighterCovers, StopNeeded}
+use Rattle.runs.specs.Tighter.{WritesExcluded}
 use Rattle.runs.proofs.Examples.{unit, unit-undamaged}
 use Rattle.runs.proofs.Wider.{wider-refl}
 
@@ -63,11 +66,23 @@ writable-wider =
 
 pub stop-needed : StopNeeded
 unfolding readOnly writable closed faultThenFetch answers before descriptorWrite damaged outOfRange decided placeOf changed decision after purposeOf byStatus seen begun touchedBy noted checked accessed aborted memory eventOf busStatus firstEntry recorded rightsOf outOfLength warns wayOf
-stop-needed claim =
-    false≢true
-    (claim (unit none readOnly closed) (unit none writable closed) faultThenFetch
-    (unit-undamaged _ _ _) (unit-undamaged _ _ _) (unit-loosened _ _ _ _ _ (wider-refl _) writable-wider)
-    (refl, (refl, refl)) .1 .0 .sup refl)
+stop-needed claim = refuted _ claim refl
+  where
+    first : Unit
+    first = unit none readOnly closed
+
+    second : Unit
+    second = unit none writable closed
+
+    -- by any stop that leaves both cycles
+    refuted : (stop : Unit → Unit → Cycle → Bool) → TighterCovers NoDescriptorWrite stop
+        → before stop first second faultThenFetch ≡ faultThenFetch → ⊥
+    refuted stop claim both =
+        false≢true
+        (subst (λ (cs : List Cycle). Both Covers (answers first cs) (answers second cs)) both
+        (claim first second faultThenFetch
+        (unit-undamaged _ _ _) (unit-undamaged _ _ _) (unit-loosened _ _ _ _ _ (wider-refl _) writable-wider)
+        (refl, (refl, refl))) .1 .0 .sup refl)
 
 -- Writes to descriptors. Segment 0 ends at %10 in the first unit and at %20 in the second. Once DIRW is written to both, it begins there: the
 -- block %18 is then inside the first's and outside the second's.
