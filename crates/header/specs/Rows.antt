@@ -1,0 +1,130 @@
+-- The edges of a trace's header: one table of rows. Each row is a trace and the number of "Numbers that say no" that refuses it, or 0 where
+-- it is taken.
+-- `Rows` (proofs/) shows that all of them hold of the definitions.
+use mathlib.Core.Bool.{Bool, true, false, _&&_}
+use mathlib.Core.List.{List, [], _∷_, _++_}
+use Prim.Native.Nat.{ℕ}
+use lib.Dec.{eqb}
+use lib.ListN.{replicate}
+use Rattle.header.specs.Header.{refusalOf}
+
+pub record Row : Type 0 where
+  pub trace : List ℕ
+  pub number : ℕ
+
+-- the row holds of the definitions
+abbrev pub holds : Row → Bool
+holds r = eqb (refusalOf (r .trace)) (r .number)
+
+abbrev pub allHold : List Row → Bool
+allHold [] = true
+allHold (r ∷ rs) = holds r && allHold rs
+
+-- What rows are made of.
+
+-- the bytes of a mark, a version and a count, and how many bytes follow them
+abbrev pub row : (mark version count : List ℕ) → (rest number : ℕ) → Row
+row m v c r n = record { trace = m ++ (v ++ (c ++ replicate r 0)); number = n }
+
+-- a trace of fewer than 7 bytes
+abbrev pub cut : List ℕ → Row
+cut t = record { trace = t; number = 5 }
+
+-- "MBT", version 1, and some counts, each in two bytes, high byte first: 16,000 is 62 x 256 + 128
+abbrev pub mbt : List ℕ
+mbt = 77 ∷ 66 ∷ 84 ∷ []
+
+abbrev pub version1 : List ℕ
+version1 = 0 ∷ 1 ∷ []
+
+abbrev pub none : List ℕ
+none = 0 ∷ 0 ∷ []
+
+abbrev pub one : List ℕ
+one = 0 ∷ 1 ∷ []
+
+abbrev pub most : List ℕ
+most = 62 ∷ 128 ∷ []
+
+abbrev pub tooMany : List ℕ
+tooMany = 62 ∷ 129 ∷ []
+
+-- The rows.
+
+-- "5: trace shorter than 7 bytes": 0 to 6 bytes of a good header are refused, its 7 bytes are taken, and with an eighth its length is wrong
+abbrev pub shorts : List Row
+shorts =
+    cut [] ∷
+    cut (77 ∷ []) ∷
+    cut (77 ∷ 66 ∷ []) ∷
+    cut mbt ∷
+    cut (77 ∷ 66 ∷ 84 ∷ 0 ∷ []) ∷
+    cut (77 ∷ 66 ∷ 84 ∷ 0 ∷ 1 ∷ []) ∷
+    cut (77 ∷ 66 ∷ 84 ∷ 0 ∷ 1 ∷ 0 ∷ []) ∷
+    row mbt version1 none 0 0 ∷
+    row mbt version1 none 1 8 ∷
+    []
+
+-- "or mark not "MBT"": one letter small, and two letters exchanged
+abbrev pub marks : List Row
+marks =
+    row (109 ∷ 66 ∷ 84 ∷ []) version1 one 4 5 ∷
+    row (77 ∷ 98 ∷ 84 ∷ []) version1 one 4 5 ∷
+    row (77 ∷ 66 ∷ 116 ∷ []) version1 one 4 5 ∷
+    row (66 ∷ 77 ∷ 84 ∷ []) version1 one 4 5 ∷
+    row (84 ∷ 66 ∷ 77 ∷ []) version1 one 4 5 ∷
+    row (77 ∷ 84 ∷ 66 ∷ []) version1 one 4 5 ∷
+    []
+
+-- "6: trace version not 1": 0, 2, 257, and 256, which is 1 with its low byte first
+abbrev pub versions : List Row
+versions =
+    row mbt (0 ∷ 0 ∷ []) one 4 6 ∷
+    row mbt (0 ∷ 2 ∷ []) one 4 6 ∷
+    row mbt (1 ∷ 1 ∷ []) one 4 6 ∷
+    row mbt (1 ∷ 0 ∷ []) one 4 6 ∷
+    []
+
+-- "7: record count above 16,000": 15,999, 16,000, 16,001, 16,128 and 65,535 with the bytes that they ask for
+abbrev pub counts : List Row
+counts =
+    row mbt version1 (62 ∷ 127 ∷ []) 63996 0 ∷
+    row mbt version1 most 64000 0 ∷
+    row mbt version1 tooMany 64004 7 ∷
+    row mbt version1 (63 ∷ 0 ∷ []) 64512 7 ∷
+    row mbt version1 (255 ∷ 255 ∷ []) 262140 7 ∷
+    []
+
+-- "8: trace length not 7 + 4 x count": a byte less, as many, a byte more, and a record more, for 0, 1, 256 and 16,000
+abbrev pub lengths : List Row
+lengths =
+    row mbt version1 none 4 8 ∷
+    row mbt version1 one 0 8 ∷
+    row mbt version1 one 3 8 ∷
+    row mbt version1 one 4 0 ∷
+    row mbt version1 one 5 8 ∷
+    row mbt version1 one 8 8 ∷
+    row mbt version1 (1 ∷ 0 ∷ []) 1023 8 ∷
+    row mbt version1 (1 ∷ 0 ∷ []) 1024 0 ∷
+    row mbt version1 (1 ∷ 0 ∷ []) 1025 8 ∷
+    row mbt version1 most 63999 8 ∷
+    row mbt version1 most 64001 8 ∷
+    row mbt version1 most 64004 8 ∷
+    []
+
+-- "the earliest in the order [..] 5, 6, 7, 8, 9 wins": a trace of 6 bytes that meets all four, and traces that meet two or more
+abbrev pub orders : List Row
+orders =
+    cut (77 ∷ 66 ∷ 84 ∷ 0 ∷ 2 ∷ 63 ∷ []) ∷
+    row (109 ∷ 66 ∷ 84 ∷ []) (0 ∷ 2 ∷ []) tooMany 0 5 ∷
+    row (109 ∷ 66 ∷ 84 ∷ []) (0 ∷ 2 ∷ []) one 4 5 ∷
+    row (109 ∷ 66 ∷ 84 ∷ []) version1 tooMany 64004 5 ∷
+    row (109 ∷ 66 ∷ 84 ∷ []) version1 one 5 5 ∷
+    row mbt (0 ∷ 2 ∷ []) tooMany 0 6 ∷
+    row mbt (0 ∷ 2 ∷ []) tooMany 64004 6 ∷
+    row mbt (0 ∷ 2 ∷ []) one 5 6 ∷
+    row mbt version1 tooMany 0 7 ∷
+    []
+
+abbrev pub rows : List Row
+rows = shorts ++ (marks ++ (versions ++ (counts ++ (lengths ++ orders))))
