@@ -1,10 +1,12 @@
 // Reads a trace from standard input, goes through it with the reader, steps a unit in place with each cycle, and holds the answers to those of
-// the run of the same trace. What it prints is mmurun's text of the trace, from the unit's answers, and then lines that start with `#`.
-mod print;
-
+// the run of the same trace. What it prints is mmurun's text of the trace, from the unit's answers, and then lines that start with `#`. The
+// last of them have the reader on traces at the edges of the header, where the proved rows stand too (`Rows`, in the specs of `header`).
+// Nothing here is public: most functions write to standard output, of which a contract can say nothing, and what the others do is seen there.
 use header::byte_at;
 use lent::step_by_lending;
 use libc::STDIN_FILENO;
+use libc::STDOUT_FILENO;
+use lines::put_lines;
 use reader::Found;
 use reader::Step;
 use reader::read_at;
@@ -13,7 +15,66 @@ use rules::Answer;
 use rules::Unit;
 use trace::count;
 
-// What the reader shows and says at a number, and the number that it is at then.
+// The most bytes that a record's line can have.
+const LINE: usize = 25;
+
+// The bytes of the longest trace's answers, and of their lines.
+const ANSWERS: usize = pack::BYTES * header::MOST;
+
+const LINES: usize = LINE * header::MOST;
+
+// A record's number past every count.
+const PAST: usize = 20000;
+
+// The high byte of 16,000, and of the counts on both sides of it.
+const HIGH: u8 = 62;
+
+// Some bytes as they are.
+fn text(s: &[u8]) {
+    io::write_all(STDOUT_FILENO, s);
+}
+
+// A number behind some words.
+fn said(words: &[u8], n: usize) {
+    text(words);
+    io::print_decimal(STDOUT_FILENO, n as u64);
+}
+
+// The same, as a line's end.
+fn number(words: &[u8], n: usize) {
+    said(words, n);
+    text(b"\n");
+}
+
+// The first line of mmurun's text.
+fn head(no: u8, count: usize) {
+    if no == 0 {
+        number(b"MBT 1 ", count);
+    } else {
+        number(b"X", no as usize);
+    }
+}
+
+// Room for the lines of the longest trace.
+fn lines_room() -> [u8; LINES] {
+    [0; LINES]
+}
+
+// The others, from packed answers. A good trace has no more of them than there is room for.
+fn record_lines(answers: &[u8], count: usize) {
+    let held = answers.len() / pack::BYTES;
+    if held < count {
+        return;
+    }
+    if header::MOST < count {
+        return;
+    }
+    let mut lines = lines_room();
+    let end = put_lines(answers, count, &mut lines, 0);
+    text(&lines[0..end]);
+}
+
+// What the reader shows and says at a number: how many bytes it shows, the number that it refuses by, or 0, and the number that it is at then.
 fn asked(trace: &[u8], n: usize) {
     let part = shown_at(trace, n);
     let shown = part.len();
@@ -23,7 +84,10 @@ fn asked(trace: &[u8], n: usize) {
     if let Step::No(number) = step {
         no = number;
     }
-    print::reader(n, shown, no, found.next);
+    said(b"# reader at ", n);
+    said(b", bytes shown ", shown);
+    said(b", refusal ", no as usize);
+    number(b", then at ", found.next);
 }
 
 // Packs the answer to record n in its place, as the run does.
@@ -68,39 +132,106 @@ fn agreeing(ours: &[u8], theirs: &[u8], records: usize) -> usize {
 }
 
 // Room for the answers of the longest trace.
-fn room() -> [u8; 96000] {
-    [0; 96000]
+fn answers_room() -> [u8; ANSWERS] {
+    [0; ANSWERS]
 }
 
-// A trace: its answers through the reader, and those of its run.
+// A trace: its answers through the reader, and those of its run. Where not all agree, record `same` is the first whose answer is not the run's.
 fn whole(trace: &[u8]) {
-    let mut theirs = room();
+    let mut theirs = answers_room();
     let no = run::run(trace, &mut theirs);
-    let mut ours = room();
+    let mut ours = answers_room();
     let end = through(trace, &mut ours);
     let records = count(trace);
-    print::head(no, records);
-    print::records(&ours, records);
-    print::agreement(agreeing(&ours, &theirs, records), records);
+    head(no, records);
+    record_lines(&ours, records);
+    let same = agreeing(&ours, &theirs, records);
+    said(b"# as in the run: the first ", same);
+    number(b" of ", records);
     asked(trace, end);
 }
 
-// A trace of one record with one byte changed, asked at its record and past every count.
-fn bad(place: usize, byte: u8) {
-    let mut trace = *b"MBT\x00\x01\x00\x01\x00\x00\x00\x00";
-    trace[place % 11] = byte;
-    asked(&trace, 0);
-    asked(&trace, 20000);
+// A trace at an edge, asked at its first record and past every count.
+fn edge(trace: &[u8]) {
+    asked(trace, 0);
+    asked(trace, PAST);
 }
 
-// The bad traces meet refusals 5 to 8; the last of them is good, and meets 9.
+// Traces that are too short, or whose mark is another: refused by 5. The third has 7 bytes and no record, and the fourth a byte more.
+fn marks() {
+    edge(b"");
+    edge(b"MBT\x00\x01\x00");
+    edge(b"MBT\x00\x01\x00\x00");
+    edge(b"MBT\x00\x01\x00\x00\x00");
+    edge(b"mBT\x00\x01\x00\x01\x00\x00\x00\x00");
+    edge(b"MbT\x00\x01\x00\x01\x00\x00\x00\x00");
+    edge(b"MBt\x00\x01\x00\x01\x00\x00\x00\x00");
+    edge(b"BMT\x00\x01\x00\x01\x00\x00\x00\x00");
+    edge(b"TBM\x00\x01\x00\x01\x00\x00\x00\x00");
+    edge(b"MTB\x00\x01\x00\x01\x00\x00\x00\x00");
+}
+
+// Versions 0, 2, 257 and 256: refused by 6.
+fn versions() {
+    edge(b"MBT\x00\x00\x00\x01\x00\x00\x00\x00");
+    edge(b"MBT\x00\x02\x00\x01\x00\x00\x00\x00");
+    edge(b"MBT\x01\x01\x00\x01\x00\x00\x00\x00");
+    edge(b"MBT\x01\x00\x00\x01\x00\x00\x00\x00");
+}
+
+// Counts 0, 2, 256 and 16,000 with one record, and 1 with a byte less and a byte more: refused by 8. Counts 16,001 and 16,129: refused by 7.
+fn counts() {
+    edge(b"MBT\x00\x01\x00\x00\x00\x00\x00\x00");
+    edge(b"MBT\x00\x01\x00\x02\x00\x00\x00\x00");
+    edge(b"MBT\x00\x01\x01\x00\x00\x00\x00\x00");
+    edge(b"MBT\x00\x01\x3E\x80\x00\x00\x00\x00");
+    edge(b"MBT\x00\x01\x00\x01\x00\x00\x00");
+    edge(b"MBT\x00\x01\x00\x01\x00\x00\x00\x00\x00");
+    edge(b"MBT\x00\x01\x3E\x81\x00\x00\x00\x00");
+    edge(b"MBT\x00\x01\x3F\x01\x00\x00\x00\x00");
+}
+
+// Traces that meet several numbers: 5 and all behind it, 6 and all behind it. The last is good, and meets 9 alone.
+fn orders() {
+    edge(b"MBT\x00\x02\x3F");
+    edge(b"mBT\x00\x02\x3E\x81");
+    edge(b"MBT\x00\x02\x3E\x81");
+    edge(b"MBT\x00\x02\x00\x01\x00");
+    edge(b"MBT\x00\x01\x00\x01\x00\x00\x00\x00");
+}
+
+// The first bytes as a trace, asked at the last number that a record can have.
+fn last(bytes: &[u8], length: usize) {
+    if length <= bytes.len() {
+        asked(&bytes[0..length], header::MOST - 1);
+    }
+}
+
+// Traces that state 15,872 records and some more, with a byte less than these ask for, as many, and a byte more.
+fn long(more: u8) {
+    let mut bytes = io::large_buffer();
+    bytes[0] = header::MARK[0];
+    bytes[1] = header::MARK[1];
+    bytes[2] = header::MARK[2];
+    bytes[4] = header::VERSION as u8;
+    bytes[5] = HIGH;
+    bytes[6] = more;
+    let length = header::HEAD + header::RECORD * (256 * HIGH as usize + more as usize);
+    last(&bytes, length - 1);
+    last(&bytes, length);
+    last(&bytes, length + 1);
+}
+
+// The traces of `long` state 15,999, 16,000 and 16,001 records.
 fn main() {
     let mut trace = io::large_buffer();
     let n = io::read_full(STDIN_FILENO, &mut trace);
     whole(&trace[..n]);
-    bad(2, b't');
-    bad(4, 2);
-    bad(5, 0x3F);
-    bad(6, 2);
-    bad(10, 0);
+    marks();
+    versions();
+    counts();
+    orders();
+    long(127);
+    long(128);
+    long(129);
 }
