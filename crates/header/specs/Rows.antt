@@ -117,16 +117,14 @@ orders =
     cut (77 ∷ 66 ∷ 84 ∷ 0 ∷ 2 ∷ 63 ∷ []) ∷
     row unmarked version2 count16001 0 5 ∷
     row unmarked version2 count1 4 5 ∷
-    row unmarked version1 count16001 64004 5 ∷
     row unmarked version1 count1 5 5 ∷
     row mbt version2 count16001 0 6 ∷
-    row mbt version2 count16001 64004 6 ∷
     row mbt version2 count1 5 6 ∷
     row mbt version1 count16001 0 7 ∷
     []
 
--- "7: record count above 16,000": 15,999, 16,000, 16,001, 16,128 and 65,535 with the bytes that they ask for, and 16,000 with a byte less
--- and a byte more
+-- "7: record count above 16,000": 15,999, 16,000, 16,001, 16,128 and 65,535 with the bytes that they ask for, 16,000 with a byte less and a
+-- byte more, and 16,001 behind another mark and another version
 abbrev pub counts : List Row
 counts =
     row mbt version1 (62 ∷ 127 ∷ []) 63996 0 ∷
@@ -136,6 +134,8 @@ counts =
     row mbt version1 count16001 64004 7 ∷
     row mbt version1 (63 ∷ 0 ∷ []) 64512 7 ∷
     row mbt version1 (255 ∷ 255 ∷ []) 262140 7 ∷
+    row unmarked version1 count16001 64004 5 ∷
+    row mbt version2 count16001 64004 6 ∷
     []
 
 -- the counts last: their traces are long, and a wrong row before them is told at once
