@@ -1,6 +1,6 @@
 // A trace reader: the lent trace and the number of its next record, kept together, with few thin functions over the crate `trace`.
 ghost use mathlib.Core.Path.{_≡_};
-ghost use Rattle.trace.specs.Trace.{partOf};
+ghost use Rattle.trace.specs.Trace.{Shows};
 ghost use Rattle.reader.specs.Reading.{startOf, stepOf, foundOf, movedOf};
 use rules::Cycle;
 use trace::decode;
@@ -62,7 +62,7 @@ pub fn next<'s, 'a>(r: &'s mut Reader<'a>) -> Step
 
 // The next record as that part of the trace, and the empty part where there is none.
 pub fn shown<'a>(r: Reader<'a>) -> &'a [u8]
-    ensures { λ p. ⌜ now p ≡ partOf (now (r .entry .trace)) (r .entry .next) ⌝ }
+    ensures { λ p. ⌜ Shows (r .entry .trace) (r .entry .next) p ⌝ }
 {
     part(r.trace, r.next)
 }
@@ -80,7 +80,7 @@ pub fn read_at(trace: &[u8], n: usize) -> Found
 
 // What such a reader shows.
 pub fn shown_at(trace: &[u8], n: usize) -> &[u8]
-    ensures { λ p. ⌜ now p ≡ partOf (now (trace .entry)) n ⌝ }
+    ensures { λ p. ⌜ Shows (trace .entry) n p ⌝ }
 {
     let mut r = start(trace);
     r.next = n;

@@ -2,6 +2,8 @@
 use mathlib.Core.Bool.{Bool, true, false, not, cond}
 use mathlib.Core.List.{List, [], _∷_, _++_}
 use Prim.Native.Nat.{ℕ, zero, suc, _+_, _*_, _%_}
+use mathlib.Core.Path.{_≡_}
+use denote.Ref.{RefT, now}
 use lib.Dec.{eqb, leb}
 use lib.ListN.{getD, take, drop}
 use Rattle.header.specs.Header.{countOf, refusalOf}
@@ -33,6 +35,18 @@ partBy false part = []
 
 unfoldable pub partOf : List ℕ → (n : ℕ) → List ℕ
 partOf t n = partBy (eqb (recordRefusalOf t n) 0) (recordAt t n)
+
+-- the number of the byte that it starts at; the empty part stands at the start
+abbrev pub startBy : (given : Bool) → (n : ℕ) → ℕ
+startBy true n = 7 + 4 * n
+startBy false n = 0
+
+unfoldable pub startsAt : List ℕ → (n : ℕ) → ℕ
+startsAt t n = startBy (eqb (recordRefusalOf t n) 0) n
+
+-- "as that part of the trace": its bytes, and that they are the lent trace's own, from that place on
+abbrev pub Shows : (trace : RefT (List ℕ)) → (n : ℕ) → (part : RefT (List ℕ)) → Type 0
+Shows t n p = (now p ≡ partOf (now t) n) × (p .ptr ≡ (t .ptr .0, startsAt (now t) n + t .ptr .1))
 
 -- "Byte 0: bits 0 to 5 as BCSR, bit 6 DMA, bit 7 select. Byte 1: segment, bit 7 reset line. Byte 2: address-phase byte.
 -- Byte 3: data, any value." BCSR has the status in bits 0 to 3, "bit 4 set for read, bit 5 set for normal mode"

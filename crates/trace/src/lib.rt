@@ -1,6 +1,6 @@
 // The records of a trace and their cycles. No call asks anything of the trace or the part that it is lent.
 ghost use mathlib.Core.Path.{_≡_};
-ghost use Rattle.trace.specs.Trace.{givenOf, recordRefusalOf, partOf, cycleOf};
+ghost use Rattle.trace.specs.Trace.{givenOf, recordRefusalOf, Shows, cycleOf};
 use header::HEAD;
 use header::RECORD;
 use header::byte_at;
@@ -39,7 +39,7 @@ pub fn record_refusal(trace: &[u8], n: usize) -> u8
 
 // Record n as that part of the trace, and the empty part where it is refused.
 pub fn part(trace: &[u8], n: usize) -> &[u8]
-    ensures { λ p. ⌜ now p ≡ partOf (now (trace .entry)) n ⌝ }
+    ensures { λ p. ⌜ Shows (trace .entry) n p ⌝ }
 {
     let given = record_refusal(trace, n) == 0;
     if given {

@@ -29,7 +29,7 @@ returns c =
     let n = start .n in
     let given : eqb (recordRefusalOf t n) 0 ≡ true =
     ap (λ (k : ℕ). eqb k 0) (sym (c .before .before .before .record-refusal .ensures)) ∙ c .before .before .if1 .taken in
-    let cycle : c .decode .result ≡ cycleOf (partOf t n) = c .decode .ensures ∙ ap cycleOf (c .before .part .ensures) in
+    let cycle : c .decode .result ≡ cycleOf (partOf t n) = c .decode .ensures ∙ ap cycleOf (c .before .part .ensures .0) in
     simp (given, cycle)
 
 returns-2 : tie.Need-returns-2

@@ -39,7 +39,7 @@ use denote.Triple.Table.{entered, cited}
 use denote.Triple.Walked.{says, Stays, stay-none, walkOf, goes-none, Walks, ends-at, walked, walk-meets}
 use denote.Exit.{yes}
 use denote.Triple.Clauses.{ensured, lasts}
-use Rattle.trace.specs.Trace.{partOf}
+use Rattle.trace.specs.Trace.{Shows}
 use Rattle.trace.proofs.part as part
 use Rattle.trace.proofs.part.Symbol as part-def
 use Rattle.trace.proofs.part.Symbol.{name as #part}
@@ -71,7 +71,7 @@ module _ {M : Type 1} (𝓤 : URA M) (H : Heap 𝓤) (A : Atoms 𝓤) (W : Given
   mach = T′.lowered d
 
   abbrev Shown : RefT (List ℕ) → Type 0
-  Shown p = now p ≡ partOf (now (d .trace)) (d .next)
+  Shown p = Shows (d .trace) (d .next) p
 
   abbrev Post : Val → SProp 𝓤
   Post = walkOf 𝓤 H A shown.ended stayed (shown.clauses 𝓤 H A mem run) .post (((κ, tt), (q, tt), tt, (d, tt), (mach ∷ [], tt)), tt)

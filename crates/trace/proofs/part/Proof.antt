@@ -7,7 +7,7 @@ use denote.Ref.{now}
 use lib.Dec.{eqb}
 use lib.ListN.{length, take, drop}
 use borrow.Author.Tests.{eqb-true}
-use Rattle.trace.specs.Trace.{recordRefusalOf, recordAt, partBy, partOf}
+use Rattle.trace.specs.Trace.{recordRefusalOf, recordAt, partBy, partOf, startBy, startsAt}
 use Rattle.trace.proofs.Within.{record-within}
 use borrow.Author.Needs.{needs}
 use Rattle.trace.proofs.part.Statement.{statement}
@@ -39,19 +39,24 @@ tested : (c : tie.After-record-refusal) → eqb (recordRefusalOf (now (c .before
 tested c = ap (λ (k : ℕ). eqb k 0) (sym (c .record-refusal .ensures))
 
 returns : tie.Need-returns
-unfolding partOf
+unfolding partOf startsAt
 returns c =
     let start = c .before .before .before .before .args in
     let n = start .n in
     let t = now (start .trace) in
-    ap (λ (k : ℕ). take k (drop (7 + 4 * n) t)) (add-sub-cancel-left (7 + 4 * n) 4)
-    ∙ sym (ap (λ (b : Bool). partBy b (recordAt t n)) (tested (c .before .before) ∙ c .before .if1 .taken))
+    let given = tested (c .before .before) ∙ c .before .if1 .taken in (
+      ap (λ (k : ℕ). take k (drop (7 + 4 * n) t)) (add-sub-cancel-left (7 + 4 * n) 4) ∙ sym (ap (λ (b : Bool). partBy b (recordAt t n)) given),
+      sym (ap (λ (b : Bool). (start .trace .ptr .0, startBy b n + start .trace .ptr .1)) given),
+    )
 
 returns-2 : tie.Need-returns-2
-unfolding partOf
+unfolding partOf startsAt
 returns-2 c =
     let start = c .before .before .before .before .args in
-    sym (ap (λ (b : Bool). partBy b (recordAt (now (start .trace)) (start .n))) (tested (c .before .before) ∙ c .before .if1 .left))
+    let none = tested (c .before .before) ∙ c .before .if1 .left in (
+      sym (ap (λ (b : Bool). partBy b (recordAt (now (start .trace)) (start .n))) none),
+      sym (ap (λ (b : Bool). (start .trace .ptr .0, startBy b (start .n) + start .trace .ptr .1)) none),
+    )
 
 pub part-spec : {M : Type 1} → statement M
 part-spec =
