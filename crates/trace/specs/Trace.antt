@@ -1,14 +1,16 @@
 -- Document 01, "The trace": the records of a trace and their cycles; and the number 9 of "Numbers that say no".
 use mathlib.Core.Bool.{Bool, true, false, not, cond}
 use mathlib.Core.List.{List, [], _∷_, _++_}
-use Prim.Native.Nat.{ℕ, zero, suc, _+_, _*_, _%_}
 use mathlib.Core.Path.{_≡_}
+use Prim.Native.Nat.{ℕ, zero, suc, _+_, _*_, _%_}
 use denote.Ref.{RefT, now}
 use lib.Dec.{eqb, leb}
 use lib.ListN.{getD, take, drop}
 use Rattle.header.specs.Header.{countOf, refusalOf}
 use Rattle.rules.specs.Flags.{has}
+use Rattle.rules.specs.Masks.{READ, NORMAL}
 use Rattle.rules.specs.declared.Cycle.{Cycle}
+use Rattle.trace.specs.Layout.{STATUSES, DMA, SELECT, NUMBERS, RESET}
 
 -- how many records a trace gives: its count, and "no record" where it is refused
 unfoldable pub givenOf : List ℕ → ℕ
@@ -52,13 +54,13 @@ Shows t n p = (now p ≡ partOf (now t) n) × (p .ptr ≡ (t .ptr .0, startsAt (
 -- Byte 3: data, any value." BCSR has the status in bits 0 to 3, "bit 4 set for read, bit 5 set for normal mode"
 unfoldable pub cycleOf : (part : List ℕ) → Cycle
 cycleOf p = record {
-  status = getD p 0 0 % 16;
-  read = has (getD p 0 0) 16;
-  normal = has (getD p 0 0) 32;
-  dma = has (getD p 0 0) 64;
-  select = has (getD p 0 0) 128;
-  segment = getD p 1 0 % 128;
-  reset = has (getD p 1 0) 128;
+  status = getD p 0 0 % STATUSES;
+  read = has (getD p 0 0) READ;
+  normal = has (getD p 0 0) NORMAL;
+  dma = has (getD p 0 0) DMA;
+  select = has (getD p 0 0) SELECT;
+  segment = getD p 1 0 % NUMBERS;
+  reset = has (getD p 1 0) RESET;
   offset = getD p 2 0;
   byte = getD p 3 0;
 }
