@@ -2,7 +2,7 @@
 -- Assumes nothing.
 use mathlib.Core.Path.{_≡_, refl, ap, _∙_}
 use mathlib.Core.Bool.{Bool, true, false, not, cond}
-use mathlib.Core.List.{List, [], _∷_, _++_, map}
+use mathlib.Core.List.{List, [], _∷_}
 use Prim.Native.Nat.{ℕ, zero, suc, _+_, _<_, _≤_}
 use native.Mathlib.Numerals.{add-one}
 use native.Mathlib.Omega.{arith}
@@ -10,10 +10,7 @@ use lib.Dec.{eqb, leb}
 use borrow.Author.Tests.{eq-eqb, ne-eqb, lt-leb}
 use Rattle.header.specs.Header.{countOf, refusalOf}
 use Rattle.trace.specs.Trace.{givenOf, recordRefusalBy, recordRefusalOf, recordAt, partOf, cycleOf, cyclesTo}
-use Rattle.rules.specs.declared.Cycle.{Cycle}
-use Rattle.reader.specs.Reading.{stepOf, afterOf, numberAfter, answersTo}
-use Rattle.reader.specs.declared.Step.{Step}
-use Rattle.reader.specs.declared.Step.the-variants.{Record, No}
+use Rattle.reader.specs.Reading.{givenAt, afterOf, numberAfter, givenTo}
 
 not-refused : (t : List ℕ) (n : ℕ) (taken : Bool) → eqb (refusalOf t) 0 ≡ taken → n < cond taken (countOf t) 0
     → recordRefusalBy (not (eqb (refusalOf t) 0)) (leb (countOf t) n) (refusalOf t) ≡ 0
@@ -21,28 +18,26 @@ not-refused t n true e l = simp (e, lt-leb _ _ l)
 not-refused t n false e l = absurd (omega (arith, l))
 
 -- a record below the count is given, and adds 1
-pub gives : (t : List ℕ) (n : ℕ) → n < givenOf t → (stepOf t n ≡ Record (cycleOf (recordAt t n))) × (afterOf t n ≡ n + 1)
-unfolding stepOf afterOf partOf recordRefusalOf givenOf
+pub gives : (t : List ℕ) (n : ℕ) → n < givenOf t
+    → (recordRefusalOf t n ≡ 0) × (givenAt t n ≡ cycleOf (recordAt t n) ∷ []) × (afterOf t n ≡ n + 1)
+unfolding givenAt afterOf partOf recordRefusalOf givenOf
 gives t n l =
-    let e : eqb (recordRefusalOf t n) 0 ≡ true = eq-eqb _ 0 (not-refused t n (eqb (refusalOf t) 0) refl l) in
-    (simp e, simp e)
+    let none : recordRefusalOf t n ≡ 0 = not-refused t n (eqb (refusalOf t) 0) refl l in
+    let e : eqb (recordRefusalOf t n) 0 ≡ true = eq-eqb _ 0 none in
+    (none, simp e, simp e)
 
--- a number that says no leaves the number
-pub stays : (t : List ℕ) (n : ℕ) → (recordRefusalOf t n ≡ 0 → ⊥) → (stepOf t n ≡ No (recordRefusalOf t n)) × (afterOf t n ≡ n)
-unfolding stepOf afterOf
+-- a number that says no gives none, and leaves the number
+pub stays : (t : List ℕ) (n : ℕ) → (recordRefusalOf t n ≡ 0 → ⊥) → (givenAt t n ≡ []) × (afterOf t n ≡ n)
+unfolding givenAt afterOf
 stays t n ne = (simp (ne-eqb _ 0 ne), simp (ne-eqb _ 0 ne))
 
-one-more : (cs : List Cycle) (c : Cycle) → map Record cs ++ (Record c ∷ []) ≡ map Record (cs ++ (c ∷ []))
-one-more [] c = refl
-one-more (x ∷ cs) c = ap (λ (rest : List Step). Record x ∷ rest) (one-more cs c)
-
 -- asked so many times, up to its count, a reader has given so many cycles
-pub gives-all : (t : List ℕ) (k : ℕ) → k ≤ givenOf t → (numberAfter t k ≡ k) × (answersTo t k ≡ map Record (cyclesTo t k))
-unfolding numberAfter answersTo cyclesTo
+pub gives-all : (t : List ℕ) (k : ℕ) → k ≤ givenOf t → (numberAfter t k ≡ k) × (givenTo t k ≡ cyclesTo t k)
+unfolding numberAfter givenTo cyclesTo
 gives-all t zero l = (refl, refl)
 gives-all t (suc k) l =
     let before = gives-all t k (omega (arith, l)) in
     let now = gives t k (omega (arith, l)) in (
-      ap (afterOf t) (before .0) ∙ (now .1 ∙ add-one k),
-      simp (before .0, before .1, now .0) (one-more (cyclesTo t k) (cycleOf (recordAt t k))),
+      ap (afterOf t) (before .0) ∙ (now .2 ∙ add-one k),
+      simp (before .0, before .1, now .1),
     )

@@ -1,3 +1,4 @@
+pub mod Answers
 pub mod Gives
 pub mod Held
 pub mod Started

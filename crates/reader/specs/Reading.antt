@@ -1,6 +1,7 @@
 -- Document 01, "The trace": a reader of a trace, and what it gives.
 use mathlib.Core.Bool.{Bool, true, false, cond}
 use mathlib.Core.List.{List, [], _∷_, _++_}
+use mathlib.Core.Path.{_≡_}
 use Prim.Native.Nat.{ℕ, zero, suc, _+_}
 use lib.Dec.{eqb}
 use denote.Ref.{RefT, now}
@@ -15,22 +16,36 @@ use Rattle.reader.specs.declared.Step.the-variants.{Record, No}
 abbrev pub startOf : (trace : RefT (List ℕ)) → Reader
 startOf t = record { trace = t; next = 0 }
 
--- a reader's answer for each case: the record's cycle, or "no record" and the number, 5 to 9, that says no
-abbrev pub stepBy : (given : Bool) → Cycle → (number : ℕ) → Step
-stepBy true c number = Record c
-stepBy false c number = No number
+-- document 01's number for each case of an answer: 0 for a record, and the number that says no, 5 to 9
+abbrev pub numberOf : Step → ℕ
+numberOf (Record c) = 0
+numberOf (No number) = number
 
--- what a reader answers for record n of a trace
-unfoldable pub stepOf : List ℕ → (n : ℕ) → Step
-stepOf t n = stepBy (eqb (recordRefusalOf t n) 0) (cycleOf (partOf t n)) (recordRefusalOf t n)
+-- and its values: the record's cycle, and none where there is "no record"
+abbrev pub valuesOf : Step → List Cycle
+valuesOf (Record c) = c ∷ []
+valuesOf (No number) = []
+
+-- the values for record n of a trace
+abbrev pub givenBy : (given : Bool) → Cycle → List Cycle
+givenBy true c = c ∷ []
+givenBy false c = []
+
+unfoldable pub givenAt : List ℕ → (n : ℕ) → List Cycle
+givenAt t n = givenBy (eqb (recordRefusalOf t n) 0) (cycleOf (partOf t n))
+
+-- an answer for record n of a trace has the number that refuses the record, and the record's values. No second answer has both (`Answers`,
+-- proofs/).
+abbrev pub Answers : List ℕ → (n : ℕ) → Step → Type 0
+Answers t n s = (numberOf s ≡ recordRefusalOf t n) × (valuesOf s ≡ givenAt t n)
 
 -- "each record given adds 1"; "no record; a reader's number stays"
 unfoldable pub afterOf : List ℕ → (n : ℕ) → ℕ
 afterOf t n = cond (eqb (recordRefusalOf t n) 0) (n + 1) n
 
--- what is found at number n of a trace, and the number after it
-abbrev pub foundOf : List ℕ → (n : ℕ) → Found
-foundOf t n = record { step = stepOf t n; next = afterOf t n }
+-- what is found at number n of a trace: the answer, and the number after it
+abbrev pub Finds : List ℕ → (n : ℕ) → Found → Type 0
+Finds t n f = Answers t n (f .step) × (f .next ≡ afterOf t n)
 
 -- the reader after it was asked for its next record: the same lent trace, whole, and the number after it
 abbrev pub movedOf : Reader → Reader
@@ -41,7 +56,7 @@ unfoldable pub numberAfter : List ℕ → (asked : ℕ) → ℕ
 numberAfter t zero = 0
 numberAfter t (suc k) = afterOf t (numberAfter t k)
 
--- what it answered, one after another
-unfoldable pub answersTo : List ℕ → (asked : ℕ) → List Step
-answersTo t zero = []
-answersTo t (suc k) = answersTo t k ++ (stepOf t (numberAfter t k) ∷ [])
+-- the cycles that it gave, one after another
+unfoldable pub givenTo : List ℕ → (asked : ℕ) → List Cycle
+givenTo t zero = []
+givenTo t (suc k) = givenTo t k ++ givenAt t (numberAfter t k)

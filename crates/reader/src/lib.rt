@@ -1,7 +1,7 @@
 // A trace reader: the lent trace and the number of its next record, kept together, with few thin functions over the crate `trace`.
 ghost use mathlib.Core.Path.{_≡_};
 ghost use Rattle.trace.specs.Trace.{Shows};
-ghost use Rattle.reader.specs.Reading.{startOf, stepOf, foundOf, movedOf};
+ghost use Rattle.reader.specs.Reading.{startOf, Answers, Finds, movedOf};
 use rules::Cycle;
 use trace::decode;
 use trace::part;
@@ -27,7 +27,7 @@ pub struct Reader<'a> {
 
 // The work of a reader, on the plain trace and the number.
 fn found_at(trace: &[u8], n: usize) -> Found
-    ensures { λ f. ⌜ f ≡ foundOf (now (trace .entry)) n ⌝ }
+    ensures { λ f. ⌜ Finds (now (trace .entry)) n f ⌝ }
 {
     let no = record_refusal(trace, n);
     let given = no == 0;
@@ -53,7 +53,7 @@ pub fn start<'a>(trace: &'a [u8]) -> Reader<'a>
 
 // The next record's cycle, or the number that says no. The reader's number goes up by 1 exactly where a record is given.
 pub fn next<'s, 'a>(r: &'s mut Reader<'a>) -> Step
-    ensures { λ s. ⌜ (s ≡ stepOf (now (now (r .entry) .trace)) (now (r .entry) .next)) × (now (r .exit) ≡ movedOf (now (r .entry))) ⌝ }
+    ensures { λ s. ⌜ Answers (now (now (r .entry) .trace)) (now (r .entry) .next) s × (now (r .exit) ≡ movedOf (now (r .entry))) ⌝ }
 {
     let f = found_at(r.trace, r.next);
     r.next = f.next;
@@ -70,7 +70,7 @@ pub fn shown<'a>(r: Reader<'a>) -> &'a [u8]
 // A reader of the trace, put to number n and asked once: what it gives, and its number after, at which it can be taken up again. Its
 // parameters are plain, so whoever calls it needs no proof by hand.
 pub fn read_at(trace: &[u8], n: usize) -> Found
-    ensures { λ g. ⌜ g ≡ foundOf (now (trace .entry)) n ⌝ }
+    ensures { λ f. ⌜ Finds (now (trace .entry)) n f ⌝ }
 {
     let mut r = start(trace);
     r.next = n;

@@ -8,7 +8,7 @@ use lib.Dec.{eqb}
 use borrow.Author.Tests.{eqb-true}
 use Rattle.trace.specs.Trace.{recordRefusalOf, partOf, cycleOf}
 use Rattle.trace.proofs.Within.{record-within}
-use Rattle.reader.specs.Reading.{stepOf, afterOf}
+use Rattle.reader.specs.Reading.{givenAt, afterOf}
 use borrow.Author.Needs.{needs}
 use Rattle.reader.proofs.found_at.Statement.{statement}
 use Rattle.reader.proofs.found_at.Tie as tie
@@ -22,25 +22,25 @@ add-t9 c =
     search needs
 
 returns : tie.Need-returns
-unfolding stepOf afterOf
+unfolding givenAt afterOf
 returns c =
     let start = c .before .before .before .before .before .args in
     let t = now (start .trace) in
     let n = start .n in
-    let given : eqb (recordRefusalOf t n) 0 ≡ true =
-    ap (λ (k : ℕ). eqb k 0) (sym (c .before .before .before .record-refusal .ensures)) ∙ c .before .before .if1 .taken in
+    let no = c .before .before .before .record-refusal .ensures in
+    let given : eqb (recordRefusalOf t n) 0 ≡ true = ap (λ (k : ℕ). eqb k 0) (sym no) ∙ c .before .before .if1 .taken in
     let cycle : c .decode .result ≡ cycleOf (partOf t n) = c .decode .ensures ∙ ap cycleOf (c .before .part .ensures .0) in
-    simp (given, cycle)
+    ((sym (eqb-true (recordRefusalOf t n) 0 given), simp (given, cycle)), simp given)
 
 returns-2 : tie.Need-returns-2
-unfolding stepOf afterOf
+unfolding givenAt afterOf
 returns-2 c =
     let start = c .before .before .before .args in
     let t = now (start .trace) in
     let n = start .n in
     let no = c .before .record-refusal .ensures in
     let given : eqb (recordRefusalOf t n) 0 ≡ false = ap (λ (k : ℕ). eqb k 0) (sym no) ∙ c .if1 .left in
-    simp (given, no)
+    ((no, simp given), simp given)
 
 pub found-at-spec : {M : Type 1} → statement M
 found-at-spec =

@@ -42,7 +42,7 @@ use denote.Triple.Spec.{Meets, tripleOf}
 use denote.Triple.Table.{entered, cited}
 use denote.Triple.Walked.{says, Stays, stay-ref, walkOf, goes-ref, Walks, ends-at, walked, walk-meets}
 use denote.Triple.Clauses.{ensured, lasts}
-use Rattle.reader.specs.Reading.{foundOf}
+use Rattle.reader.specs.Reading.{Finds}
 use Rattle.reader.specs.declared.Found.{Found}
 use Rattle.reader.specs.declared.Reader.{Reader}
 use Rattle.reader.proofs.Found as F
@@ -103,7 +103,7 @@ module _ {M : Type 1} (𝓤 : URA M) (H : Heap 𝓤) (A : Atoms 𝓤) (W : Given
   asked = qed W ((‵ (flft κ′ q′) ⊛ ‵ ftrue) ∷ ‵ (Passed 𝓤 H A κ′ h) ∷ []) ∵ join ! $ frame ! $ done !
 
   abbrev Said : Found → Type 0
-  Said r = r ≡ foundOf (now (h .trace)) (h .next)
+  Said r = Finds (now (h .trace)) (h .next) r
 
   said : (r : Found)
       → ent 𝓤 (ensured 𝓤 H A found-at.ended (found-at.clauses 𝓤 H A at-mem run) (κ′, tt) (h .trace, (h .next, tt)) tt r) (fact 𝓤 (Said r))
@@ -117,7 +117,7 @@ module _ {M : Type 1} (𝓤 : URA M) (H : Heap 𝓤) (A : Atoms 𝓤) (W : Given
       ∷ (‵ (flft κ′ q′) ⊛ ‵ ftrue) ∷ []) ∵
       suffices ! _ (ends-at 𝓤 H A next.ended stayed (next.clauses 𝓤 H A at-mem run) W
       (((κ, (κ′, tt)), (q, (q′, tt)), bounds, x, at), tt) _ (r .step) (put h (r .next), tt) (tt, tt)) $
-      says ! (ap (λ (f : Found). f .step) e, ap (λ (f : Found). put h (f .next)) e) $
+      says ! (e .0, ap (put h) (e .1)) $
       move ! (2 ∷ 3 ∷ []) $ join ! $ frame ! $ feqI ! (List Val) (vptr b o ∷ []) (vptr b o ∷ []) refl $ fjoin3 ! $
       nothing ! $ move ! (1 ∷ 0 ∷ []) $ fjoin ! $
       owned ! S.the-row (Is S.the-row) (EL.makes S.the-type S′.the-plain 𝓤 H A) (r .step) _ (step-is r vs is) $
