@@ -1,4 +1,4 @@
--- What a reader owns: taken apart for a callee that is given the trace and the number, and put together again with another number.
+-- What a reader owns: taken apart for a callee that is given the trace and a number, and put together again with another number.
 -- A reader is Copy: what it owns is had twice, and one copy is kept. Its number owns no more than that it fits, which is made anew.
 -- Assumes nothing.
 use mathlib.Core.Path.{_≡_, refl}
@@ -67,17 +67,17 @@ module _ {M : Type 1} (𝓤 : URA M) (H : Heap 𝓤) (A : Atoms 𝓤) (κ : Lft)
   abbrev pub Own : Fml
   Own = R κ .own d (T′.lowered d ∷ [])
 
-  abbrev pub Passed : Fml
-  Passed = owns (Part κ ∷ usize ∷ []) (d .trace, (d .next, tt)) (passed (d .trace) (d .next))
+  abbrev pub Passed : ℕ → Fml
+  Passed m = owns (Part κ ∷ usize ∷ []) (d .trace, (m, tt)) (passed (d .trace) m)
 
   module _ (W : Given 𝓤 H A) where
-    pub apart : d .next < 2 ^ 64 → ent 𝓤 (sem 𝓤 H A Own) (sep 𝓤 (sem 𝓤 H A Passed) (sem 𝓤 H A Own))
-    apart fits =
+    pub apart : (m : ℕ) → m < 2 ^ 64 → ent 𝓤 (sem 𝓤 H A Own) (sep 𝓤 (sem 𝓤 H A (Passed m)) (sem 𝓤 H A Own))
+    apart m fits =
         qed W (‵ Own ∷ []) ∵ use1 W (‵ Own ⊛ ‵ Own) (LL.copy D (T′.the-copy (α κ)) 𝓤 H A W .twice d (T′.lowered d ∷ [])) $ split ! $
         use1 W (given (T′.lowered d ∷ [] ≡ T′.lowered d ∷ []) (‵ (all-own (D .parts) L fields)))
         (own-open 𝓤 H A W D L fields (T′.lowered d)) $ learn ! (λ _.
         use1 W (‵ (ownAt (D .parts) L 0 (d .trace)) ⊛ ‵ (rest (D .parts) L 0 fields)) (own-out 𝓤 H A W (D .parts) L 0 fields) $
-        split ! $ move ! (1 ∷ []) $ drop ! $ nothing ! $ owned ! usize (Is usize) (uint-makes 𝓤 H A W w64) (d .next) _ (refl, fits) $
+        split ! $ move ! (1 ∷ []) $ drop ! $ nothing ! $ owned ! usize (Is usize) (uint-makes 𝓤 H A W w64) m _ (refl, fits) $
         fjoin ! $ move ! (1 ∷ 0 ∷ []) $ fjoin ! $ frame ! $ done !)
 
     pub again : (m : ℕ) → m < 2 ^ 64 → ent 𝓤 (sem 𝓤 H A Own) (sem 𝓤 H A (R κ .own (put d m) (T′.lowered (put d m) ∷ [])))

@@ -82,7 +82,7 @@ pub fn read_at(trace: &[u8], n: usize) -> Found
 pub fn shown_at(trace: &[u8], n: usize) -> &[u8]
     ensures { λ p. ⌜ Shows (trace .entry) n p ⌝ }
 {
-    let mut r = start(trace);
-    r.next = n;
-    shown(r)
+    let mut reader = start(trace);
+    reader.next = n;
+    shown(reader)
 }

@@ -94,13 +94,17 @@ module _ {M : Type 1} (𝓤 : URA M) (H : Heap 𝓤) (A : Atoms 𝓤) (W : Given
   said : (r : Stepped) → ent 𝓤 (ensured 𝓤 H A step.ended (step.clauses 𝓤 H A at-mem run) tt (h, (c, tt)) tt r) (fact 𝓤 (r ≡ stepped h c))
   said r = exE 𝓤 _ (λ ws. snd∗ 𝓤 (sem 𝓤 H A (lasts step.ended tt (h, (c, tt)) ws)) (fact 𝓤 (r ≡ stepped h c)))
 
+  -- the unit that is left in its place
+  abbrev stored : Stepped → UnitRec
+  stored r = r .unit
+
   exits : (r : Stepped) (vs : List Val) → Is S.the-row r vs → r ≡ stepped h c
-      → ent 𝓤 (sep 𝓤 (A .obs γ (U.the-row .coded .code (r .unit))) (sep 𝓤 (A .bor κ (Body (mem U.the-row) b o γ)) (A .lft κ q)))
+      → ent 𝓤 (sep 𝓤 (A .obs γ (U.the-row .coded .code (stored r))) (sep 𝓤 (A .bor κ (Body (mem U.the-row) b o γ)) (A .lft κ q)))
       (Post (answer-val (r .answer)))
   exits r vs is e =
-      qed W (‵ (fobs γ (U.the-row .coded .code (r .unit))) ∷ ‵ (fbor κ (Body (mem U.the-row) b o γ)) ∷ ‵ (flft κ q) ∷ []) ∵
+      qed W (‵ (fobs γ (U.the-row .coded .code (stored r))) ∷ ‵ (fbor κ (Body (mem U.the-row) b o γ)) ∷ ‵ (flft κ q) ∷ []) ∵
       suffices ! _ (ends-at 𝓤 H A in-place.ended stayed (in-place.clauses 𝓤 H A at-mem run) W (((κ, tt), (q, tt), tt, x, at), tt) _
-      (r .answer) (r .unit, (tt, tt)) (tt, (tt, tt))) $
+      (r .answer) (stored r, (tt, tt)) (tt, (tt, tt))) $
       says ! (ap (λ (s : Stepped). s .answer) e, ap (λ (s : Stepped). s .unit) e) $
       nothing ! $ move ! (3 ∷ 0 ∷ []) $ join ! $ frame ! $ feqI ! (List Val) (vptr b o ∷ []) (vptr b o ∷ []) refl $ fjoin3 ! $
       nothing ! $ owned ! Y.the-row (Is Y.the-row) (LL.makes Y.the-type Y′.the-plain 𝓤 H A) c _ c-is $
@@ -143,8 +147,8 @@ module _ {M : Type 1} (𝓤 : URA M) (H : Heap 𝓤) (A : Atoms 𝓤) (W : Given
         assigns ! (of-opd ! (load ! (from ! (fld ! refl (stop !))) (look-in ! 8 (sub ! 1 refl (whole !))))) (from ! (stop !))
         (init ! 14 refl (LL.lawful N.the-type N′.the-laws 𝓤 H A W .typed (r .answer) _ (answer-of r _ is) .0)) $
         -- the borrow is closed at the unit that `step` gave
-        drop ! $ owned ! U.the-row (Is U.the-row) (LL.makes U.the-type U′.the-plain 𝓤 H A) (r .unit) _ (unit-of r _ is) $
-        move ! (1 ∷ 0 ∷ []) $ closes ! tt U.the-row (r .unit) (unit-val (r .unit) ∷ []) b o $
+        drop ! $ owned ! U.the-row (Is U.the-row) (LL.makes U.the-type U′.the-plain 𝓤 H A) (stored r) _ (unit-of r _ is) $
+        move ! (1 ∷ 0 ∷ []) $ closes ! tt U.the-row (stored r) (unit-val (stored r) ∷ []) b o $
         -- [obs; the borrow; the token; true; _4; …; _3; …; _2; …; _1; …; _0; …]
         returns ! (look ! 12 refl) $
         forget ! 4 refl $ forget ! 6 refl $ forget ! 8 refl $ forget ! 10 refl $ forget ! 12 refl $

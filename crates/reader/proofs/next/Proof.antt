@@ -94,13 +94,17 @@ module _ {M : Type 1} (𝓤 : URA M) (H : Heap 𝓤) (A : Atoms 𝓤) (W : Given
   abbrev Post : Val → SProp 𝓤
   Post = walkOf 𝓤 H A next.ended stayed (next.clauses 𝓤 H A at-mem run) .post (((κ, (κ′, tt)), (q, (q′, tt)), bounds, x, at), tt)
 
+  -- the reader that is left behind
+  abbrev left : Found → Reader
+  left r = put h (r .next)
+
   -- what the callee is passed, what it asks, and what is known of its result
   abbrev to : FoundAt 𝓤 H A at-mem run .Ghost
   to = (((κ′, tt), (q′, tt), tt, (h .trace, (h .next, tt)), passed (h .trace) (h .next)), tt)
 
   asked : ent 𝓤 (onEntry 𝓤 H A found-at.signature (κ′, tt) (q′, tt) (h .trace, (h .next, tt)) (passed (h .trace) (h .next)))
       (FoundAt 𝓤 H A at-mem run .pre to)
-  asked = qed W ((‵ (flft κ′ q′) ⊛ ‵ ftrue) ∷ ‵ (Passed 𝓤 H A κ′ h) ∷ []) ∵ join ! $ frame ! $ done !
+  asked = qed W ((‵ (flft κ′ q′) ⊛ ‵ ftrue) ∷ ‵ (Passed 𝓤 H A κ′ h (h .next)) ∷ []) ∵ join ! $ frame ! $ done !
 
   abbrev Said : Found → Type 0
   Said r = Finds (now (h .trace)) (h .next) r
@@ -110,13 +114,13 @@ module _ {M : Type 1} (𝓤 : URA M) (H : Heap 𝓤) (A : Atoms 𝓤) (W : Given
   said r = exE 𝓤 _ (λ ws. snd∗ 𝓤 (sem 𝓤 H A (lasts found-at.ended (κ′, tt) (h .trace, (h .next, tt)) ws)) (fact 𝓤 (Said r)))
 
   exits : (r : Found) (vs : List Val) → Is F.the-row r vs → Said r
-      → ent 𝓤 (⋆ 𝓤 H A (‵ (fobs γ (R κ′ .coded .code (put h (r .next)))) ∷ ‵ (fbor κ (Body (mem (R κ′)) b o γ)) ∷ ‵ (flft κ q)
+      → ent 𝓤 (⋆ 𝓤 H A (‵ (fobs γ (R κ′ .coded .code (left r))) ∷ ‵ (fbor κ (Body (mem (R κ′)) b o γ)) ∷ ‵ (flft κ q)
       ∷ (‵ (flft κ′ q′) ⊛ ‵ ftrue) ∷ [])) (Post (EL.val S.the-type S′.the-laws (r .step)))
   exits r vs is e =
-      qed W (‵ (fobs γ (R κ′ .coded .code (put h (r .next)))) ∷ ‵ (fbor κ (Body (mem (R κ′)) b o γ)) ∷ ‵ (flft κ q)
+      qed W (‵ (fobs γ (R κ′ .coded .code (left r))) ∷ ‵ (fbor κ (Body (mem (R κ′)) b o γ)) ∷ ‵ (flft κ q)
       ∷ (‵ (flft κ′ q′) ⊛ ‵ ftrue) ∷ []) ∵
       suffices ! _ (ends-at 𝓤 H A next.ended stayed (next.clauses 𝓤 H A at-mem run) W
-      (((κ, (κ′, tt)), (q, (q′, tt)), bounds, x, at), tt) _ (r .step) (put h (r .next), tt) (tt, tt)) $
+      (((κ, (κ′, tt)), (q, (q′, tt)), bounds, x, at), tt) _ (r .step) (left r, tt) (tt, tt)) $
       says ! (e .0, ap (put h) (e .1)) $
       move ! (2 ∷ 3 ∷ []) $ join ! $ frame ! $ feqI ! (List Val) (vptr b o ∷ []) (vptr b o ∷ []) refl $ fjoin3 ! $
       nothing ! $ move ! (1 ∷ 0 ∷ []) $ fjoin ! $
@@ -143,7 +147,7 @@ module _ {M : Type 1} (𝓤 : URA M) (H : Heap 𝓤) (A : Atoms 𝓤) (W : Given
         (from ! (stop !)) (init ! 9 refl (tt, wt .1 .0)) $
         assigns ! (of-opd ! (load ! (from ! (hop ! (look ! 13 refl) (fld ! refl (stop !)))) (look-in ! 0 (sub ! 1 refl (whole !)))))
         (from ! (stop !)) (init ! 7 refl (tt, wt .1 .1 .0)) $
-        move ! (1 ∷ []) $ use1 W (‵ (Passed 𝓤 H A κ′ h) ⊛ ‵ (Own 𝓤 H A κ′ h)) (apart 𝓤 H A κ′ h W (wt .1 .1 .0 .fits)) $ split ! $
+        move ! (1 ∷ []) $ use1 W (‵ (Passed 𝓤 H A κ′ h (h .next)) ⊛ ‵ (Own 𝓤 H A κ′ h)) (apart 𝓤 H A κ′ h W (h .next) (wt .1 .1 .0 .fits)) $ split ! $
         move ! (6 ∷ 0 ∷ []) $ use2 W (raw (FoundAt 𝓤 H A at-mem run .pre to)) asked $
         -- [what `found_at` asks; what the reader owns; its cell; the open borrow; obs; auth; true; _4; …; _3; …; _2; …; _1; …;
         -- room for _0; …]
@@ -164,10 +168,10 @@ module _ {M : Type 1} (𝓤 : URA M) (H : Heap 𝓤) (A : Atoms 𝓤) (W : Given
         assigns ! (of-opd ! (load ! (from ! (fld ! refl (stop !))) (look-in ! 12 (sub ! 0 refl (whole !))))) (from ! (stop !))
         (init ! 16 refl (EL.lawful S.the-type S′.the-laws 𝓤 H A W tt .typed (r .step) _ (step-is r _ is) .0)) $
         -- the borrow is closed at the reader with the new number
-        drop ! $ move ! (1 ∷ []) $ use1 W (‵ (Own 𝓤 H A κ′ (put h (r .next)))) (again 𝓤 H A κ′ h W (r .next) (next-fits r _ is)) $
-        move ! (2 ∷ []) $ use1 W (‵ (cellAt fullShare (R κ′ .mir) (mach (put h (r .next)) ∷ []) b o))
-        (W .laws .at-raw fullShare (T′.mir erased) b o (mach (put h (r .next)))) $
-        move ! (0 ∷ 1 ∷ 3 ∷ 4 ∷ 5 ∷ []) $ closes ! tt (R κ′) (put h (r .next)) (mach (put h (r .next)) ∷ []) b o $
+        drop ! $ move ! (1 ∷ []) $ use1 W (‵ (Own 𝓤 H A κ′ (left r))) (again 𝓤 H A κ′ h W (r .next) (next-fits r _ is)) $
+        move ! (2 ∷ []) $ use1 W (‵ (cellAt fullShare (R κ′ .mir) (mach (left r) ∷ []) b o))
+        (W .laws .at-raw fullShare (T′.mir erased) b o (mach (left r))) $
+        move ! (0 ∷ 1 ∷ 3 ∷ 4 ∷ 5 ∷ []) $ closes ! tt (R κ′) (left r) (mach (left r) ∷ []) b o $
         -- [obs; the borrow; its token; 'a's token; true; _4; …; _3; …; _2; …; _1; …; _0; …]
         returns ! (look ! 13 refl) $
         forget ! 5 refl $ forget ! 7 refl $ forget ! 9 refl $ forget ! 11 refl $ forget ! 13 refl $

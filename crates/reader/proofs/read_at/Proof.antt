@@ -123,6 +123,10 @@ module _ {M : Type 1} (𝓤 : URA M) (H : Heap 𝓤) (A : Atoms 𝓤) (W : Given
   abbrev r : Share
   r = PosShare·right q
 
+  -- the reader that is lent
+  abbrev placed : Reader → Reader
+  placed d = put d n
+
   -- the call of `next`: the reference is to the reader d in the local at b, for the lifetime ν ∷ κ, under the name γ
   abbrev ref : Reader → ℕ → GName → RefT Reader
   ref d b γ = record { ptr = (b, 0); name = γ; now = d }
@@ -155,7 +159,7 @@ module _ {M : Type 1} (𝓤 : URA M) (H : Heap 𝓤) (A : Atoms 𝓤) (W : Given
       nothing ! $ owned ! usize (Is usize) (uint-makes 𝓤 H A W w64) n _ (refl, fits) $ fjoin ! $
       move ! (2 ∷ 0 ∷ []) $ fjoin ! $ frame ! $ done !
 
-  reached : (d z : Reader) (t : Step) → d ≡ startOf s → Said (put d n) t z → Finds (now s) n (found t (z .next))
+  reached : (d z : Reader) (t : Step) → d ≡ startOf s → Said (placed d) t z → Finds (now s) n (found t (z .next))
   reached d z t b e =
       subst (λ (x : Reader). Finds (now (x .trace)) n (found t (z .next))) b (e .0, ap (λ (x : Reader). x .next) (e .1))
 
@@ -188,25 +192,25 @@ module _ {M : Type 1} (𝓤 : URA M) (H : Heap 𝓤) (A : Atoms 𝓤) (W : Given
         (init ! 11 refl (LL.lawful (T.the-type (αᵉ κ)) (T′.the-laws (αᵉ κ)) 𝓤 H A W .typed d _ (subst (Is (R κ) d) tells is) .0)) $
         assigns ! (of-opd ! (load ! (from ! (stop !)) (look ! 13 refl))) (from ! (fld ! refl (stop !)))
         (store-in ! 11 (sub ! 1 refl (whole !)) (tt, record { fits = fits })) $
-        use1 W (‵ (Own 𝓤 H A κ (put d n))) (again 𝓤 H A κ d W n fits) $
+        use1 W (‵ (Own 𝓤 H A κ (placed d))) (again 𝓤 H A κ d W n fits) $
         -- the reader in _3 is lent for ν ∷ κ
         assigns ! (addr ! (from ! (stop !))) (from ! (stop !)) (init ! 5 refl (tt, tt)) $
-        move ! (11 ∷ 0 ∷ []) $ use2 W (‵ (mem (R κ) .lies (put d n) l₃ 0)) (lies 𝓤 H A W κ (put d n) l₃) $ move ! (1 ∷ []) $ split ! $
+        move ! (11 ∷ 0 ∷ []) $ use2 W (‵ (mem (R κ) .lies (placed d) l₃ 0)) (lies 𝓤 H A W κ (placed d) l₃) $ move ! (1 ∷ []) $ split ! $
         lft-new ! tt (λ ν. move ! (1 ∷ 0 ∷ []) $
         use2 W (‵ (flft (ν ∷ κ) l) ⊛ ‵ (flft κ r) ⊛ raw (Way 𝓤 H A ν κ q)) (begins 𝓤 H A ν κ q W) $ split3 ! $ move ! (4 ∷ []) $
-        use1 W (later (some (λ (γ : GName). ‵ (own-ref ν (put d n) l₃ γ) ⊛ ‵ (flent (ν ∷ κ) (Body (mem (R κ)) l₃ 0 γ)))))
-        (lends-ref 𝓤 H A W (R κ) (named 0) (ν ∷ κ) (put d n) l₃ 0) $ await ! tt $ pick ! (λ γ. split ! $
-        move ! (2 ∷ 3 ∷ 0 ∷ []) $ use3 W (raw (Next 𝓤 H A at-mem run .pre (to-next ν (put d n) l₃ γ))) (goes-next ν (put d n) l₃ γ) $
+        use1 W (later (some (λ (γ : GName). ‵ (own-ref ν (placed d) l₃ γ) ⊛ ‵ (flent (ν ∷ κ) (Body (mem (R κ)) l₃ 0 γ)))))
+        (lends-ref 𝓤 H A W (R κ) (named 0) (ν ∷ κ) (placed d) l₃ 0) $ await ! tt $ pick ! (λ γ. split ! $
+        move ! (2 ∷ 3 ∷ 0 ∷ []) $ use3 W (raw (Next 𝓤 H A at-mem run .pre (to-next ν (placed d) l₃ γ))) (goes-next ν (placed d) l₃ γ) $
         -- [what `next` asks; the lender's part; the way back; true; what the trace owns; _7; …; _6; …; _5; …; _4; …; what frees _3; _2; …;
         -- _1; …; _0; …]
-        calls-at ! fm (Next 𝓤 H A at-mem run) known-next (to-next ν (put d n) l₃ γ)
+        calls-at ! fm (Next 𝓤 H A at-mem run) known-next (to-next ν (placed d) l₃ γ)
         (and-then ! (load ! (from ! (stop !)) (look ! 7 refl)) (no-more !)) (λ w.
         use1 W (later (some (λ (t : Step). ((‵ (flft (ν ∷ κ) l) ⊛ ‵ (flft κ r) ⊛ ‵ ftrue) ⊛ ‵ (S.the-row .own t (w ∷ [])))
-        ⊛ raw (ensured 𝓤 H A next.ended (next.clauses 𝓤 H A at-mem run) (ν ∷ κ, (κ, tt)) (ref (put d n) l₃ γ, tt) tt t)))) (id⊢ 𝓤 _) $
+        ⊛ raw (ensured 𝓤 H A next.ended (next.clauses 𝓤 H A at-mem run) (ν ∷ κ, (κ, tt)) (ref (placed d) l₃ γ, tt) tt t)))) (id⊢ 𝓤 _) $
         await ! tt $ pick ! (λ t. split ! $ move ! (1 ∷ []) $
-        use1 W (some (λ (zs : Reader × Unit {0}). ‵ (lasts next.ended (ν ∷ κ, (κ, tt)) (ref (put d n) l₃ γ, tt) zs)
-        ⊛ raw (fact 𝓤 (Said (put d n) t (zs .0))))) (id⊢ 𝓤 _) $ pick ! (λ zs. split ! $ move ! (1 ∷ []) $
-        heard ! (Said (put d n) t (zs .0)) (λ e. fsplit ! $ move ! (2 ∷ []) $ split ! $ move ! (1 ∷ []) $
+        use1 W (some (λ (zs : Reader × Unit {0}). ‵ (lasts next.ended (ν ∷ κ, (κ, tt)) (ref (placed d) l₃ γ, tt) zs)
+        ⊛ raw (fact 𝓤 (Said (placed d) t (zs .0))))) (id⊢ 𝓤 _) $ pick ! (λ zs. split ! $ move ! (1 ∷ []) $
+        heard ! (Said (placed d) t (zs .0)) (λ e. fsplit ! $ move ! (2 ∷ []) $ split ! $ move ! (1 ∷ []) $
         -- [what the result owns; the tokens; the reader's last value; …; the lender's part; the way back; true; what the trace owns; _7; …;
         -- _6; …; _5; …; _4; …; what frees _3; _2; …; _1; …; _0; …]
         peeks ! S.the-row (Is S.the-row) (shows 𝓤 H A S.the-row) t (w ∷ []) (λ t-is.

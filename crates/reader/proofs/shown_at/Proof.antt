@@ -83,6 +83,10 @@ module _ {M : Type 1} (𝓤 : URA M) (H : Heap 𝓤) (A : Atoms 𝓤) (W : Given
       qed W (‵ (Own 𝓤 H A κ d) ∷ (‵ (flft κ q) ⊛ ‵ ftrue) ∷ []) ∵ nothing ! $ move ! (1 ∷ 0 ∷ []) $ fjoin ! $
       move ! (1 ∷ 0 ∷ []) $ join ! $ frame ! $ done !
 
+  -- the reader that is passed on
+  abbrev placed : Reader → Reader
+  placed d = put d n
+
   abbrev Shown : Reader → RefT (List ℕ) → Type 0
   Shown d p = Shows (d .trace) (d .next) p
 
@@ -128,17 +132,17 @@ module _ {M : Type 1} (𝓤 : URA M) (H : Heap 𝓤) (A : Atoms 𝓤) (W : Given
         rewrite ! 0 (λ (vs : List Val). ‵ (R κ .own d vs)) tells refl $
         assigns ! (of-opd ! (load ! (from ! (stop !)) (look ! 7 refl))) (from ! (fld ! refl (stop !)))
         (store-in ! 5 (sub ! 1 refl (whole !)) (tt, record { fits = fits })) $
-        use1 W (‵ (Own 𝓤 H A κ (put d n))) (again 𝓤 H A κ d W n fits) $
+        use1 W (‵ (Own 𝓤 H A κ (placed d))) (again 𝓤 H A κ d W n fits) $
         assigns ! (of-opd ! (load ! (from ! (stop !)) (look ! 5 refl))) (from ! (stop !))
         (init ! 3 refl (tt, (wt .1 .0, (record { fits = fits }, tt)))) $
-        use2 W (raw (Show 𝓤 H A mem run .pre (to-shown (put d n)))) (goes-shown (put d n)) $
+        use2 W (raw (Show 𝓤 H A mem run .pre (to-shown (placed d)))) (goes-shown (placed d)) $
         -- [what `shown` asks; what the trace owns; _4; …; _3; …; _2; …; _1; …; _0; …]
-        calls-at ! fm (Show 𝓤 H A mem run) known-shown (to-shown (put d n))
+        calls-at ! fm (Show 𝓤 H A mem run) known-shown (to-shown (placed d))
         (and-then ! (load ! (from ! (stop !)) (look ! 2 refl)) (no-more !)) (λ w.
         use1 W (later (some (λ (p : RefT (List ℕ)). ((‵ (flft κ q) ⊛ ‵ ftrue) ⊛ ‵ (Part κ .own p (w ∷ [])))
-        ⊛ raw (ensured 𝓤 H A shown.ended (shown.clauses 𝓤 H A mem run) (κ, tt) (put d n, tt) tt p)))) (id⊢ 𝓤 _) $ await ! tt $ pick ! (λ p.
-        split ! $ move ! (1 ∷ []) $ use1 W (raw (fact 𝓤 (Shown (put d n) p))) (shown-said (put d n) p) $
-        heard ! (Shown (put d n) p) (λ e. split ! $ move ! (1 ∷ []) $
+        ⊛ raw (ensured 𝓤 H A shown.ended (shown.clauses 𝓤 H A mem run) (κ, tt) (placed d, tt) tt p)))) (id⊢ 𝓤 _) $ await ! tt $ pick ! (λ p.
+        split ! $ move ! (1 ∷ []) $ use1 W (raw (fact 𝓤 (Shown (placed d) p))) (shown-said (placed d) p) $
+        heard ! (Shown (placed d) p) (λ e. split ! $ move ! (1 ∷ []) $
         -- [what the part owns; the token; what the trace owns; _4; …; _3; …; _2; …; _1; …; room for _0; …]
         peeks ! (Part κ) (Is (Part κ)) (shows 𝓤 H A (Part κ)) p (w ∷ []) (λ is′.
         land ! (from ! (stop !)) (init ! 11 refl (shr-slice-lawful 𝓤 H A W (named 0) κ u8 .typed p _ is′ .0)) $
