@@ -7,10 +7,12 @@ use Prim.Native.Nat.{ℕ, zero, suc, _+_, _<_, _≤_}
 use native.Mathlib.Numerals.{add-one}
 use native.Mathlib.Omega.{arith}
 use lib.Dec.{eqb, leb}
+use denote.Ref.{RefT, now}
 use borrow.Author.Tests.{eq-eqb, ne-eqb, lt-leb}
 use Rattle.header.specs.Header.{countOf, refusalOf}
 use Rattle.trace.specs.Trace.{givenOf, recordRefusalBy, recordRefusalOf, recordAt, partOf, cycleOf, cyclesTo}
-use Rattle.reader.specs.Reading.{givenAt, afterOf, numberAfter, givenTo}
+use Rattle.reader.specs.Reading.{givenAt, afterOf, movedOf, readerAfter, givenTo}
+use Rattle.reader.specs.declared.Reader.{Reader}
 
 not-refused : (t : List ℕ) (n : ℕ) (taken : Bool) → eqb (refusalOf t) 0 ≡ taken → n < cond taken (countOf t) 0
     → recordRefusalBy (not (eqb (refusalOf t) 0)) (leb (countOf t) n) (refusalOf t) ≡ 0
@@ -31,13 +33,15 @@ pub stays : (t : List ℕ) (n : ℕ) → (recordRefusalOf t n ≡ 0 → ⊥) →
 unfolding givenAt afterOf
 stays t n ne = (simp (ne-eqb _ 0 ne), simp (ne-eqb _ 0 ne))
 
--- asked so many times, up to its count, a reader has given so many cycles
-pub gives-all : (t : List ℕ) (k : ℕ) → k ≤ givenOf t → (numberAfter t k ≡ k) × (givenTo t k ≡ cyclesTo t k)
-unfolding numberAfter givenTo cyclesTo
+abbrev at : RefT (List ℕ) → ℕ → Reader
+at t n = record { trace = t; next = n }
+
+-- asked so many times, up to its count, a reader stands at that number and has given so many cycles
+pub gives-all : (t : RefT (List ℕ)) (k : ℕ) → k ≤ givenOf (now t) → (readerAfter t k ≡ at t k) × (givenTo t k ≡ cyclesTo (now t) k)
+unfolding readerAfter givenTo cyclesTo
 gives-all t zero l = (refl, refl)
 gives-all t (suc k) l =
     let before = gives-all t k (omega (arith, l)) in
-    let now = gives t k (omega (arith, l)) in (
-      ap (afterOf t) (before .0) ∙ (now .2 ∙ add-one k),
-      simp (before .0, before .1, now .1),
-    )
+    let here = gives (now t) k (omega (arith, l)) in
+    let given = ap (λ (r : Reader). givenAt (now (r .trace)) (r .next)) (before .0) ∙ here .1 in
+    (ap movedOf (before .0) ∙ ap (at t) (here .2 ∙ add-one k), simp (before .1, given))

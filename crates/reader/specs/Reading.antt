@@ -51,12 +51,12 @@ Finds t n f = Answers t n (f .step) × (f .next ≡ afterOf t n)
 abbrev pub movedOf : Reader → Reader
 movedOf r = record { trace = r .trace; next = afterOf (now (r .trace)) (r .next) }
 
--- the number of a reader that was asked so many times from its start
-unfoldable pub numberAfter : List ℕ → (asked : ℕ) → ℕ
-numberAfter t zero = 0
-numberAfter t (suc k) = afterOf t (numberAfter t k)
+-- a reader that was asked so many times from its start
+unfoldable pub readerAfter : (trace : RefT (List ℕ)) → (asked : ℕ) → Reader
+readerAfter t zero = startOf t
+readerAfter t (suc k) = movedOf (readerAfter t k)
 
 -- the cycles that it gave, one after another
-unfoldable pub givenTo : List ℕ → (asked : ℕ) → List Cycle
+unfoldable pub givenTo : (trace : RefT (List ℕ)) → (asked : ℕ) → List Cycle
 givenTo t zero = []
-givenTo t (suc k) = givenTo t k ++ givenAt t (numberAfter t k)
+givenTo t (suc k) = givenTo t k ++ givenAt (now (readerAfter t k .trace)) (readerAfter t k .next)

@@ -42,7 +42,7 @@ pub fn record_refusal(trace: &[u8], n: usize) -> u8
     if past { 9 } else { 0 }
 }
 
-// Record n as that part of the trace, and the empty part where it is refused.
+// Record n as that part of the trace, and the empty part at the trace's start where it is refused.
 pub fn part(trace: &[u8], n: usize) -> &[u8]
     ensures { λ p. ⌜ Shows (trace .entry) n p ⌝ }
 {
