@@ -1,24 +1,25 @@
 -- What a caller may rely on that keeps a unit in bytes.
 -- Assumes nothing.
-use mathlib.Core.Path.{_≡_, refl, ap, _∙_}
+use mathlib.Core.Path.{_≡_, refl, sym, ap, _∙_}
 use mathlib.Core.Bool.{Bool, true, false}
-use mathlib.Core.List.{List, [], _∷_}
-use Prim.Native.Nat.{ℕ, _≤_}
+use mathlib.Core.List.{List, [], _∷_, _++_}
+use Prim.Native.Nat.{ℕ, _+_, _*_, _≤_}
 use native.Mathlib.Omega.{arith}
-use lib.ListN.{length, getD}
-use lib.Seq.{sets, length-sets}
+use lib.ListN.{length, getD, drop}
+use lib.Seq.{sets, sets-eq, length-sets, drop-at}
 use borrow.Author.Tests.{ltb-false}
-use Rattle.rules.specs.Runs.{answers}
+use Rattle.rules.specs.Runs.{answers, final}
 use Rattle.rules.specs.Step.{stepped}
 use Rattle.rules.specs.declared.Answer.{Answer}
 use Rattle.rules.specs.declared.Cycle.{Cycle}
 use Rattle.rules.specs.declared.Kind.the-variants.{Refused}
 use Rattle.rules.specs.declared.Unit.{Unit}
 use Rattle.runs.proofs.Refusal.{refusal-leaves}
-use Rattle.runs.proofs.Undamaged.{undamaged-after}
-use Rattle.snapshot.specs.Snapshot.{unitIn, bytesOf}
+use Rattle.runs.proofs.Undamaged.{size-after}
+use Rattle.snapshot.specs.Snapshot.{unitIn, tableBytes, registerBytes, bytesOf}
+use Rattle.snapshot.proofs.Tables.{bytes-length}
 use Rattle.turn.specs.Turned.{strange, answerBy, answerOf, bytesBy, bytesAfter}
-use Rattle.kept.specs.Kept.{Bytes, RefusalKeeps, calls, CallsAreTheRun}
+use Rattle.kept.specs.Kept.{Bytes, RefusalKeeps, calls, left, CallsAreTheRun}
 use Rattle.kept.proofs.PutBack.{put-back}
 use Rattle.kept.proofs.FoundAgain.{found-again, never-strange}
 
@@ -44,12 +45,34 @@ module _ (l : List ℕ) (u : Unit) (c : Cycle) (room : 266 ≤ length l) (size :
       ap (λ (b : Bool). bytesBy b (sets l 0 (bytesOf u)) c) (never-strange l u room size)
       ∙ ap (λ (v : Unit). sets (sets l 0 (bytesOf u)) 0 (bytesOf (stepped v c .unit))) (found-again l u room size)
 
+-- as many bytes put over others leave nothing of those
+put-over : (l a b : List ℕ) → length a ≤ length l → length b ≡ length a → sets (sets l 0 a) 0 b ≡ sets l 0 b
+put-over l a b room same =
+    let wide : 0 + length b ≤ length (sets l 0 a) = omega (arith, length-sets l 0 a) in
+    let ends : 0 + length a ≡ 0 + length b = omega arith in
+    let behind : drop (0 + length b) (sets l 0 a) ≡ drop (0 + length b) l =
+    ap (drop (0 + length b)) (sets-eq a l 0 (omega arith))
+    ∙ drop-at a (drop (0 + length a) l) (0 + length b) (omega arith)
+    ∙ ap (λ (k : ℕ). drop k l) ends in
+    sets-eq b (sets l 0 a) 0 wide ∙ ap (λ (r : List ℕ). b ++ r) behind ∙ sym (sets-eq b l 0 (omega arith))
+
+-- the bytes of a unit with 64 descriptors
+long : (u : Unit) → length (u .table) ≡ 64 → length (bytesOf u) ≡ 266
+unfolding bytesOf registerBytes
+long u size = let h : length (tableBytes (u .table)) ≡ 4 * length (u .table) = bytes-length (u .table) in omega arith
+
 pub calls-are-the-run : CallsAreTheRun
-unfolding calls answers
-calls-are-the-run l u [] room h = refl
-calls-are-the-run l u (c ∷ cs) room h =
+unfolding calls left answers final
+calls-are-the-run l u [] room size = (refl, refl)
+calls-are-the-run l u (c ∷ cs) room size =
+    let v : Unit = stepped u c .unit in
     let x : List ℕ = sets l 0 (bytesOf u) in
-    let wide : 266 ≤ length x = omega (arith, length-sets l 0 (bytesOf u)) in
-    ap (λ (a : Answer). a ∷ calls (bytesAfter x c) cs) (answers-as l u c room (h .size))
-    ∙ ap (λ (m : List ℕ). stepped u c .answer ∷ calls m cs) (leaves-as l u c room (h .size))
-    ∙ ap (λ (r : List Answer). stepped u c .answer ∷ r) (calls-are-the-run x (stepped u c .unit) cs wide (undamaged-after u c h))
+    let size′ : length (v .table) ≡ 64 = size-after u c ∙ size in
+    let over : bytesAfter x c ≡ sets l 0 (bytesOf v) =
+    leaves-as l u c room size ∙ put-over l (bytesOf u) (bytesOf v) (omega (arith, long u size)) (long v size′ ∙ sym (long u size)) in
+    let rest = calls-are-the-run l v cs room size′ in (
+      ap (λ (a : Answer). a ∷ calls (bytesAfter x c) cs) (answers-as l u c room size)
+          ∙ ap (λ (m : List ℕ). stepped u c .answer ∷ calls m cs) over
+          ∙ ap (λ (r : List Answer). stepped u c .answer ∷ r) (rest .0),
+      ap (λ (m : List ℕ). left m cs) over ∙ rest .1,
+    )

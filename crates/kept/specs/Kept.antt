@@ -4,12 +4,11 @@ use mathlib.Core.List.{List, [], _∷_}
 use Prim.Native.Nat.{ℕ, _<_, _≤_}
 use lib.ListN.{length, getD}
 use lib.Seq.{sets}
-use Rattle.rules.specs.Runs.{answers}
+use Rattle.rules.specs.Runs.{answers, final}
 use Rattle.rules.specs.declared.Answer.{Answer}
 use Rattle.rules.specs.declared.Cycle.{Cycle}
 use Rattle.rules.specs.declared.Kind.the-variants.{Refused}
 use Rattle.rules.specs.declared.Unit.{Unit}
-use Rattle.runs.specs.Undamaged.{Undamaged}
 use Rattle.snapshot.specs.Snapshot.{unitIn, bytesOf}
 use Rattle.turn.specs.Turned.{answerOf, bytesAfter}
 
@@ -30,6 +29,13 @@ unfoldable pub calls : (unit : List ℕ) → List Cycle → List Answer
 calls unit [] = []
 calls unit (c ∷ cs) = answerOf unit c ∷ calls (bytesAfter unit c) cs
 
--- CLAIM: they are the answers of the run, from every undamaged unit; so from power-on too.
+-- the bytes that the last of them leaves
+unfoldable pub left : (unit : List ℕ) → List Cycle → List ℕ
+left unit [] = unit
+left unit (c ∷ cs) = left (bytesAfter unit c) cs
+
+-- CLAIM: they are the answers of the run, and the bytes that are left are those of its last unit, put where the first unit's were, with
+-- all behind them as it stood; from every unit with 64 descriptors, a damaged one too; so from power-on.
 abbrev pub CallsAreTheRun : Type 0
-CallsAreTheRun = (l : List ℕ) (u : Unit) (cs : List Cycle) → 266 ≤ length l → Undamaged u → calls (sets l 0 (bytesOf u)) cs ≡ answers u cs
+CallsAreTheRun = (l : List ℕ) (u : Unit) (cs : List Cycle) → 266 ≤ length l → length (u .table) ≡ 64
+    → (calls (sets l 0 (bytesOf u)) cs ≡ answers u cs) × (left (sets l 0 (bytesOf u)) cs ≡ sets l 0 (bytesOf (final u cs)))
