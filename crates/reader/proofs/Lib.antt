@@ -3,3 +3,4 @@ pub mod Gives
 pub mod Held
 pub mod Started
 pub mod Within
+pub mod Once
