@@ -13,8 +13,7 @@ use lib.ListN.{length, getD}
 use lib.Seq.{sets}
 use Rattle.distantarm.specs.Interface.{startNumber, startBytes}
 use Rattle.pack.specs.Packed.{packed}
-use Rattle.reader.specs.Reading.{stepBy, stepOf, afterOf}
-use Rattle.reader.specs.declared.Found.{Found}
+use Rattle.reader.specs.Reading.{numberOf as numberOf-step, valuesOf, givenBy, givenAt, afterOf}
 use Rattle.rules.specs.Kinds.{numberOf}
 use Rattle.rules.specs.declared.Cycle.{Cycle}
 use Rattle.rules.specs.declared.Stepped.{Stepped}
@@ -62,14 +61,16 @@ pub read-at-agrees : (κs : Lfts 1) (a : Dens κs part-k.ps) (number : ℕ) (p :
     (e : AtExit (endedOf 1 record-refusal-k.ps record-refusal-k.r) κs) (f : AtExit (endedOf 1 part-k.ps part-k.r) κs)
     (g : AtExit (endedOf 1 decode-k.ps decode-k.r) κs) (h : AtExit (endedOf 1 read-at-k.ps read-at-k.r) κs)
     → record-refusal.Learnt κs a number e → part.Learnt κs a p f → decode.Learnt κs (p, tt) c g → read-at.Learnt κs a x h
-    → (x .step ≡ stepBy (eqb number 0) c number) × (x .next ≡ cond (eqb number 0) (a .1 .0 + 1) (a .1 .0))
-unfolding stepOf afterOf
+    → (numberOf-step (x .step) ≡ number) × (valuesOf (x .step) ≡ givenBy (eqb number 0) c)
+    × (x .next ≡ cond (eqb number 0) (a .1 .0 + 1) (a .1 .0))
+unfolding givenAt afterOf
 read-at-agrees κs a number p c x e f g h refuses shows decodes reads =
     let same : c ≡ cycleOf (partOf (now (a .0)) (a .1 .0)) = decodes ∙ ap cycleOf (shows .0) in (
-      ap (λ (d : Found). d .step) reads
-          ∙ ap (λ (k : ℕ). stepBy (eqb k 0) (cycleOf (partOf (now (a .0)) (a .1 .0))) k) (sym refuses)
-          ∙ ap (λ (d : Cycle). stepBy (eqb number 0) d number) (sym same),
-      ap (λ (d : Found). d .next) reads ∙ ap (λ (k : ℕ). cond (eqb k 0) (a .1 .0 + 1) (a .1 .0)) (sym refuses),
+      reads .0 .0 ∙ sym refuses,
+      reads .0 .1
+          ∙ ap (λ (k : ℕ). givenBy (eqb k 0) (cycleOf (partOf (now (a .0)) (a .1 .0)))) (sym refuses)
+          ∙ ap (givenBy (eqb number 0)) (sym same),
+      reads .1 ∙ ap (λ (k : ℕ). cond (eqb k 0) (a .1 .0 + 1) (a .1 .0)) (sym refuses),
     )
 
 pub distantarm-list-agrees : (κs : Lfts 2) (a : Dens κs list-k.ps) (x y : ℕ)

@@ -5,7 +5,7 @@ use Rattle.fields.specs.Fields.{kindText, opening, addressText, byteText, signa
 use Rattle.header.specs.Header.{marked, pair, refusalOf}
 use Rattle.listing.specs.Text.{line, printed}
 use Rattle.pack.specs.Packed.{flagsOf, packed, bytesOf as bytesOf-answers}
-use Rattle.reader.specs.Reading.{stepOf, afterOf}
+use Rattle.reader.specs.Reading.{givenAt, afterOf}
 use Rattle.rules.specs.Checks.{rightsOf, outOfLength, warns}
 use Rattle.rules.specs.Codes.{commandOf}
 use Rattle.rules.specs.Commands.{given, controlled, programmed, entry, cleared, restarted, acted, executed, commanded}
@@ -47,7 +47,7 @@ unfolding refusing translating accessing commanding programming decided placeOf 
 rules = 0
 
 unfoldable pub trace : ℕ
-unfolding marked pair refusalOf givenOf recordRefusalOf partOf startsAt cycleOf cyclesTo stepOf afterOf
+unfolding marked pair refusalOf givenOf recordRefusalOf partOf startsAt cycleOf cyclesTo givenAt afterOf
 trace = 0
 
 unfoldable pub bytes : ℕ

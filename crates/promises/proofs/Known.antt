@@ -2,7 +2,7 @@
 -- by the checker. Assumes nothing.
 use mathlib.Core.Bool.{Bool, true, false}
 use mathlib.Core.List.{List, [], _∷_, _++_}
-use mathlib.Core.Path.{_≡_, ap, _∙_}
+use mathlib.Core.Path.{_≡_, refl, ap, _∙_}
 use Prim.Native.Nat.{ℕ, _+_}
 use contract.Lifetimes.{Lfts}
 use borrow.Fn.Kinds.{endedOf}
@@ -19,6 +19,7 @@ use Rattle.rules.specs.declared.Kind.the-variants.{Translated}
 use Rattle.rules.specs.declared.Stepped.{Stepped}
 use Rattle.lent.proofs.step_by_lending.Kinds as step-by-lending-k
 use Rattle.lent.proofs.step_by_lending.Reads as step-by-lending
+use Rattle.reader.proofs.Answers.{finds-only}
 use Rattle.reader.proofs.read_at.Kinds as read-at-k
 use Rattle.reader.proofs.read_at.Reads as read-at
 use Rattle.reader.proofs.shown_at.Kinds as shown-at-k
@@ -127,7 +128,10 @@ pub read-at-known : (κs : Lfts 1) (p : ℕ × ℕ) (g : ℕ) (x y : Found) (e f
     → read-at.Learnt κs (lent p g sample, (5, tt)) x e → read-at.Learnt κs (lent p g sample, (9, tt)) y f
     → (x ≡ record { step = Record (cycle false true false 8 0 21); next = 6 }) × (y ≡ record { step = No 9; next = 9 })
 unfolding computed
-read-at-known κs p g x y e f l m = (l, m)
+read-at-known κs p g x y e f l m = (
+  finds-only sample 5 x (record { step = Record (cycle false true false 8 0 21); next = 6 }) l ((refl, refl), refl),
+  finds-only sample 9 y (record { step = No 9; next = 9 }) m ((refl, refl), refl),
+)
 
 -- the same cycle, on the unit record
 pub step-by-lending-known : (κs : Lfts 0) (s : Stepped) (e : AtExit (endedOf 0 step-by-lending-k.ps step-by-lending-k.r) κs)

@@ -3,13 +3,15 @@
 -- a contract beside them.
 -- Assumes nothing.
 use mathlib.Core.List.{List}
-use mathlib.Core.Path.{_≡_}
+use mathlib.Core.Path.{_≡_, subst}
 use Prim.Native.Nat.{ℕ}
 use contract.Lifetimes.{Lfts}
 use borrow.Fn.Kinds.{Dens, endedOf}
 use denote.Ref.{RefT, now}
 use denote.Triple.Clauses.{AtExit}
+use Rattle.reader.specs.Reading.{Finds}
 use Rattle.reader.specs.declared.Found.{Found}
+use Rattle.reader.proofs.Answers.{finds-only}
 use Rattle.reader.proofs.read_at.Kinds as read-at-k
 use Rattle.reader.proofs.read_at.Reads as read-at
 use Rattle.reader.proofs.shown_at.Kinds as shown-at-k
@@ -19,7 +21,10 @@ pub read-at-only : (κs : Lfts 1) (a b : Dens κs read-at-k.ps) (x y : Found) (e
     → (now (a .0) ≡ now (b .0)) × (a .1 .0 ≡ b .1 .0)
     → read-at.Learnt κs a x e → read-at.Learnt κs b y f
     → x ≡ y
-read-at-only κs a b x y e f s p q = cc
+read-at-only κs a b x y e f s p q =
+    let p′ : Finds (now (b .0)) (b .1 .0) x =
+    subst (λ (n : ℕ). Finds (now (b .0)) n x) (s .1) (subst (λ (t : List ℕ). Finds t (a .1 .0) x) (s .0) p) in
+    finds-only (now (b .0)) (b .1 .0) x y p′ q
 
 -- the part's bytes, and its place where the trace stands in one place
 pub shown-at-only : (κs : Lfts 1) (a b : Dens κs shown-at-k.ps) (x y : RefT (List ℕ))
