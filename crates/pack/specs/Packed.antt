@@ -5,6 +5,10 @@ use Rattle.rules.specs.Flags.{with, flagIf}
 use Rattle.rules.specs.Kinds.{letterOf, numberOf}
 use Rattle.rules.specs.declared.Answer.{Answer}
 
+-- the bytes of a packed answer
+abbrev pub width : ℕ
+width = 6
+
 -- what an answer says yes or no to: 1 the address is driven, 2 SUP, 4 the trap line, 8 the data byte is driven
 unfoldable pub flagsOf : Answer → ℕ
 flagsOf a =

@@ -3,7 +3,7 @@ ghost use mathlib.Core.Path.{_≡_};
 ghost use Prim.Native.Nat.{_+_, _≤_};
 ghost use lib.ListN.{length};
 ghost use lib.Seq.{sets};
-ghost use Rattle.pack.specs.Packed.{flagsOf, packed};
+ghost use Rattle.pack.specs.Packed.{width, flagsOf, packed};
 use registers::flags;
 use rules::Answer;
 
@@ -30,7 +30,7 @@ fn flags_of(a: Answer) -> u8
 
 // An answer's bytes stored from an index on.
 pub fn put(out: &mut [u8], at: usize, a: Answer)
-    requires { ⌜ at + 6 ≤ length (now out) ⌝ }
+    requires { ⌜ at + width ≤ length (now out) ⌝ }
     ensures { λ _. ⌜ now (out .exit) ≡ sets (now (out .entry)) at (packed a) ⌝ }
 {
     let kind = a.kind;

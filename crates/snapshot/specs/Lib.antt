@@ -1,1 +1,2 @@
 pub mod Snapshot
+pub mod Places

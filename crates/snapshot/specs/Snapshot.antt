@@ -8,6 +8,20 @@ use Rattle.rules.specs.declared.Notes.{Notes}
 use Rattle.rules.specs.declared.Registers.{Registers}
 use Rattle.rules.specs.declared.Unit.{Unit}
 
+-- ---- sizes: where the descriptors begin, the bytes of one, how many there are, and the bytes of a unit
+
+abbrev pub tableAt : ℕ
+tableAt = 10
+
+abbrev pub descriptorSize : ℕ
+descriptorSize = 4
+
+abbrev pub segments : ℕ
+segments = 64
+
+abbrev pub unitSize : ℕ
+unitSize = tableAt + descriptorSize * segments
+
 -- ---- a unit from bytes
 
 -- a descriptor's four bytes: base (high byte first), limit, attributes
@@ -18,10 +32,10 @@ descriptorIn l at = record {
   attributes = getD l (at + 3) 0;
 }
 
--- the first n descriptors, from byte 10 on
+-- the first n descriptors
 unfoldable pub tableIn : List ℕ → (n : ℕ) → List Descriptor
 tableIn l zero = []
-tableIn l (suc n) = tableIn l n ++ (descriptorIn l (10 + 4 * n) ∷ [])
+tableIn l (suc n) = tableIn l n ++ (descriptorIn l (tableAt + descriptorSize * n) ∷ [])
 
 -- the notes' bits: 0 request, 1 await, 2 own, 3 hold; the others are not looked at
 unfoldable pub notesIn : (byte : ℕ) → Notes
@@ -36,7 +50,7 @@ registersIn l = record {
 }
 
 unfoldable pub unitIn : List ℕ → Unit
-unitIn l = record { table = tableIn l 64; registers = registersIn l }
+unitIn l = record { table = tableIn l segments; registers = registersIn l }
 
 -- ---- the bytes of a unit
 

@@ -3,6 +3,7 @@ ghost use mathlib.Core.Path.{_≡_};
 ghost use Prim.Native.Nat.{_*_, _+_, _≤_};
 ghost use lib.ListN.{length};
 ghost use lib.Seq.{sets};
+ghost use Rattle.snapshot.specs.Snapshot.{tableAt, descriptorSize, segments, unitSize};
 ghost use Rattle.snapshot.specs.Snapshot.{descriptorIn, tableIn, notesIn, registersIn, unitIn};
 ghost use Rattle.snapshot.specs.Snapshot.{descriptorBytes, tableBytes, notesByte, registerBytes, bytesOf};
 use registers::flags;
@@ -14,15 +15,17 @@ use rules::Notes;
 use rules::Registers;
 use rules::Unit;
 
-// The bytes of a unit, where its notes stand, and where its descriptors begin.
-pub const BYTES: usize = 266;
-
+// Where the notes of a unit stand, and where its descriptors begin.
 pub const NOTES: usize = 9;
 
 pub const TABLE: usize = 10;
 
-// The bytes of a descriptor.
+// The bytes of a descriptor, how many descriptors there are, and the bytes of a unit.
 pub const DESCRIPTOR: usize = 4;
+
+pub const SEGMENTS: usize = Unit::SEGMENTS as usize;
+
+pub const BYTES: usize = TABLE + DESCRIPTOR * SEGMENTS;
 
 // The bits of the notes, and the largest byte that is made of them.
 pub const REQUEST: u8 = 1;
@@ -33,7 +36,7 @@ pub const OWN: u8 = 4;
 
 pub const HOLD: u8 = 8;
 
-pub const LAST_NOTES: u8 = 15;
+pub const LAST_NOTES: u8 = REQUEST | AWAIT | OWN | HOLD;
 
 // 16 bits, high byte first.
 fn pair(high: u8, low: u8) -> u16
@@ -43,8 +46,8 @@ fn pair(high: u8, low: u8) -> u16
 }
 
 // The descriptor of the four bytes from an index on.
-fn descriptor_in(bytes: &[u8], at: usize) -> Descriptor
-    requires { ⌜ at + 4 ≤ length (now bytes) ⌝ }
+pub fn descriptor_in(bytes: &[u8], at: usize) -> Descriptor
+    requires { ⌜ at + descriptorSize ≤ length (now bytes) ⌝ }
     ensures { λ d. ⌜ d ≡ descriptorIn (now (bytes .entry)) at ⌝ }
 {
     Descriptor {
@@ -55,17 +58,17 @@ fn descriptor_in(bytes: &[u8], at: usize) -> Descriptor
 }
 
 // The table of a unit's bytes.
-fn table_in(bytes: &[u8]) -> [Descriptor; 64]
-    requires { ⌜ 266 ≤ length (now bytes) ⌝ }
-    ensures { λ t. ⌜ t ≡ tableIn (now (bytes .entry)) 64 ⌝ }
+fn table_in(bytes: &[u8]) -> [Descriptor; SEGMENTS]
+    requires { ⌜ unitSize ≤ length (now bytes) ⌝ }
+    ensures { λ t. ⌜ t ≡ tableIn (now (bytes .entry)) segments ⌝ }
 {
     let none = Descriptor {
         base: 0,
         limit: 0,
         attributes: 0,
     };
-    let mut table = [none; 64];
-    for i in 0..64usize {
+    let mut table = [none; SEGMENTS];
+    for i in 0..SEGMENTS {
         table[i] = descriptor_in(bytes, TABLE + DESCRIPTOR * i);
     }
     table
@@ -83,9 +86,9 @@ fn notes_in(byte: u8) -> Notes
     }
 }
 
-// The registers of a unit's bytes.
+// The registers of the first bytes of a unit.
 pub fn registers_in(bytes: &[u8]) -> Registers
-    requires { ⌜ 266 ≤ length (now bytes) ⌝ }
+    requires { ⌜ tableAt ≤ length (now bytes) ⌝ }
     ensures { λ r. ⌜ r ≡ registersIn (now (bytes .entry)) ⌝ }
 {
     Registers {
@@ -110,7 +113,7 @@ pub fn registers_in(bytes: &[u8]) -> Registers
 
 // The unit of its bytes.
 pub fn unit_in(bytes: &[u8]) -> Unit
-    requires { ⌜ 266 ≤ length (now bytes) ⌝ }
+    requires { ⌜ unitSize ≤ length (now bytes) ⌝ }
     ensures { λ u. ⌜ u ≡ unitIn (now (bytes .entry)) ⌝ }
 {
     let table = table_in(bytes);
@@ -119,8 +122,8 @@ pub fn unit_in(bytes: &[u8]) -> Unit
 }
 
 // A descriptor's bytes stored from an index on.
-fn put_descriptor(out: &mut [u8], at: usize, d: Descriptor)
-    requires { ⌜ at + 4 ≤ length (now out) ⌝ }
+pub fn put_descriptor(out: &mut [u8], at: usize, d: Descriptor)
+    requires { ⌜ at + descriptorSize ≤ length (now out) ⌝ }
     ensures { λ _. ⌜ now (out .exit) ≡ sets (now (out .entry)) at (descriptorBytes d) ⌝ }
 {
     let base = d.base;
@@ -131,11 +134,11 @@ fn put_descriptor(out: &mut [u8], at: usize, d: Descriptor)
 }
 
 // A table's bytes stored at their place.
-fn put_table(out: &mut [u8], table: [Descriptor; 64])
-    requires { ⌜ 266 ≤ length (now out) ⌝ }
-    ensures { λ _. ⌜ now (out .exit) ≡ sets (now (out .entry)) 10 (tableBytes table) ⌝ }
+fn put_table(out: &mut [u8], table: [Descriptor; SEGMENTS])
+    requires { ⌜ unitSize ≤ length (now out) ⌝ }
+    ensures { λ _. ⌜ now (out .exit) ≡ sets (now (out .entry)) tableAt (tableBytes table) ⌝ }
 {
-    for i in 0..64usize {
+    for i in 0..SEGMENTS {
         let d = table[i];
         put_descriptor(out, TABLE + DESCRIPTOR * i, d);
     }
@@ -151,9 +154,9 @@ fn notes_byte(n: Notes) -> u8
         | flags::flag_if(n.hold, HOLD)
 }
 
-// The registers' bytes stored at their place.
-fn put_registers(out: &mut [u8], r: Registers)
-    requires { ⌜ 266 ≤ length (now out) ⌝ }
+// The registers' bytes stored at the start.
+pub fn put_registers(out: &mut [u8], r: Registers)
+    requires { ⌜ tableAt ≤ length (now out) ⌝ }
     ensures { λ _. ⌜ now (out .exit) ≡ sets (now (out .entry)) 0 (registerBytes r) ⌝ }
 {
     let n = r.notes;
@@ -172,7 +175,7 @@ fn put_registers(out: &mut [u8], r: Registers)
 
 // A unit's bytes stored at the start.
 pub fn put_unit(out: &mut [u8], u: Unit)
-    requires { ⌜ 266 ≤ length (now out) ⌝ }
+    requires { ⌜ unitSize ≤ length (now out) ⌝ }
     ensures { λ _. ⌜ now (out .exit) ≡ sets (now (out .entry)) 0 (bytesOf u) ⌝ }
 {
     let registers = u.registers;

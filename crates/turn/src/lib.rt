@@ -5,7 +5,8 @@ ghost use Prim.Native.Nat.{_≤_};
 ghost use lib.ListN.{length};
 ghost use lib.Seq.{sets};
 ghost use Rattle.rules.specs.Kinds.{numberOf};
-ghost use Rattle.pack.specs.Packed.{packed};
+ghost use Rattle.pack.specs.Packed.{width, packed};
+ghost use Rattle.snapshot.specs.Snapshot.{unitSize};
 ghost use Rattle.turn.specs.Turned.{Cycled};
 use commands::single;
 use rules::Answer;
@@ -14,7 +15,7 @@ use unit::step::step;
 
 // An answer packed at the start of the buffer, and the number of its refusal, or 0.
 fn show(answer: &mut [u8], a: Answer) -> u8
-    requires { ⌜ 6 ≤ length (now answer) ⌝ }
+    requires { ⌜ width ≤ length (now answer) ⌝ }
     ensures { λ r. ⌜ (r ≡ numberOf (a .kind)) × (now (answer .exit) ≡ sets (now (answer .entry)) 0 (packed a)) ⌝ }
 {
     pack::put(answer, 0, a);
@@ -24,7 +25,7 @@ fn show(answer: &mut [u8], a: Answer) -> u8
 
 // One cycle of the unit in the bytes, both buffers having room.
 pub fn turn(unit: &mut [u8], answer: &mut [u8], c: Cycle) -> u8
-    requires { ⌜ (266 ≤ length (now unit)) × (6 ≤ length (now answer)) ⌝ }
+    requires { ⌜ (unitSize ≤ length (now unit)) × (width ≤ length (now answer)) ⌝ }
     ensures { λ r. ⌜ Cycled false c (now (unit .entry)) (now (answer .entry)) (now (unit .exit)) (now (answer .exit)) r ⌝ }
 {
     let notes = unit[snapshot::NOTES];
