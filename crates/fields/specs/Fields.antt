@@ -45,8 +45,11 @@ signals sup request drives byte =
     bitText sup ∷ space ∷ bitText request ∷ space ∷ byteText drives byte ++ (feed ∷ [])
 
 -- "First line: mark, version, count in decimal, one space between": 77, 66, 84 are MBT, and 49 is 1
+abbrev pub markText : List ℕ
+markText = 77 ∷ 66 ∷ 84 ∷ space ∷ 49 ∷ space ∷ []
+
 unfoldable pub headText : (count : ℕ) → List ℕ
-headText count = 77 ∷ 66 ∷ 84 ∷ space ∷ 49 ∷ space ∷ decimal count ++ (feed ∷ [])
+headText count = markText ++ (decimal count ++ (feed ∷ []))
 
 -- "A refused trace prints one line, as X6, and nothing else."
 unfoldable pub refusalText : (number : ℕ) → List ℕ

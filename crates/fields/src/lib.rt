@@ -1,9 +1,10 @@
 // The fields of a line of the text. Each function puts some bytes at an index and answers the index after them.
 ghost use mathlib.Core.Path.{_≡_};
-ghost use Prim.Native.Nat.{_+_, _≤_};
+ghost use Prim.Native.Nat.{_+_, _<_, _≤_};
 ghost use lib.ListN.{length};
 ghost use Rattle.rules.specs.Flags.{has};
 ghost use Rattle.stores.specs.Put.{Put};
+ghost use Rattle.text.specs.Digits.{beyond};
 ghost use Rattle.fields.specs.Fields.{kindText, opening, addressText, bitText, byteText, signals};
 use stores::put;
 use text::put_dashes;
@@ -26,7 +27,7 @@ pub fn put_kind(out: &mut [u8], at: usize, letter: u8, number: u8) -> usize
 
 // A record's number and its kind.
 pub fn put_opening(out: &mut [u8], at: usize, n: usize, letter: u8, number: u8) -> usize
-    requires { ⌜ at + 13 ≤ length (now out) ⌝ }
+    requires { ⌜ (at + 13 ≤ length (now out)) × (n < beyond) ⌝ }
     ensures { λ r. ⌜ Put (now (out .entry)) at (opening n letter number) (now (out .exit)) r ⌝ }
     ensures { λ r. ⌜ r ≤ at + 13 ⌝ }
 {

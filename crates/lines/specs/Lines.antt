@@ -2,8 +2,16 @@
 use mathlib.Core.List.{List, [], _∷_, _++_}
 use Prim.Native.Nat.{ℕ, zero, suc, _+_}
 use lib.ListN.{getD, take, drop}
+use Rattle.pack.specs.Packed.{width}
 use Rattle.rules.specs.Flags.{has}
 use Rattle.fields.specs.Fields.{space, opening, addressText, signals}
+
+-- the most bytes of the first line, or of a refused trace's only line, and of the line of a record
+abbrev pub headRoom : ℕ
+headRoom = 12
+
+abbrev pub lineRoom : ℕ
+lineRoom = 25
 
 -- the line of six bytes
 unfoldable pub lineOf : ℕ → (six : List ℕ) → List ℕ
@@ -15,4 +23,4 @@ lineOf n p =
 -- k lines, numbered from n
 unfoldable pub linesOf : (n k : ℕ) → List ℕ → List ℕ
 linesOf n zero p = []
-linesOf n (suc k) p = lineOf n (take 6 p) ++ linesOf (n + 1) k (drop 6 p)
+linesOf n (suc k) p = lineOf n (take width p) ++ linesOf (n + 1) k (drop width p)

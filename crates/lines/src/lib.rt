@@ -1,10 +1,12 @@
 // The lines of the text. Each function puts some bytes at an index and answers the index after them.
 ghost use mathlib.Core.Path.{_≡_};
-ghost use Prim.Native.Nat.{_*_, _+_, _≤_};
+ghost use Prim.Native.Nat.{_*_, _+_, _<_, _≤_};
 ghost use lib.ListN.{length};
+ghost use Rattle.pack.specs.Packed.{width};
 ghost use Rattle.stores.specs.Put.{Put};
-ghost use Rattle.fields.specs.Fields.{headText, refusalText};
-ghost use Rattle.lines.specs.Lines.{lineOf, linesOf};
+ghost use Rattle.text.specs.Digits.{beyond};
+ghost use Rattle.fields.specs.Fields.{markText, headText, refusalText};
+ghost use Rattle.lines.specs.Lines.{headRoom, lineRoom, lineOf, linesOf};
 use fields::put_address;
 use fields::put_kind;
 use fields::put_opening;
@@ -13,11 +15,16 @@ use header::MARK;
 use stores::put;
 use text::put_decimal;
 
+// The most bytes of the first line, or of a refused trace's only line, and of the line of a record.
+pub const HEAD: usize = 12;
+
+pub const LINE: usize = 25;
+
 // A record's line, from its answer's six bytes.
 fn put_line(out: &mut [u8], at: usize, n: usize, six: &[u8]) -> usize
-    requires { ⌜ (at + 25 ≤ length (now out)) × (length (now six) ≡ 6) ⌝ }
+    requires { ⌜ (at + lineRoom ≤ length (now out)) × (n < beyond) × (length (now six) ≡ width) ⌝ }
     ensures { λ r. ⌜ Put (now (out .entry)) at (lineOf n (now (six .entry))) (now (out .exit)) r ⌝ }
-    ensures { λ r. ⌜ r ≤ at + 25 ⌝ }
+    ensures { λ r. ⌜ r ≤ at + lineRoom ⌝ }
 {
     let letter = six[0];
     let number = six[1];
@@ -33,9 +40,9 @@ fn put_line(out: &mut [u8], at: usize, n: usize, six: &[u8]) -> usize
 
 // The lines of all records, from their packed answers.
 pub fn put_lines(packed: &[u8], count: usize, out: &mut [u8], at: usize) -> usize
-    requires { ⌜ (6 * count ≤ length (now packed)) × (at + 25 * count ≤ length (now out)) ⌝ }
+    requires { ⌜ (width * count ≤ length (now packed)) × (at + lineRoom * count ≤ length (now out)) × (count ≤ beyond) ⌝ }
     ensures { λ r. ⌜ Put (now (out .entry)) at (linesOf 0 count (now (packed .entry))) (now (out .exit)) r ⌝ }
-    ensures { λ r. ⌜ r ≤ at + 25 * count ⌝ }
+    ensures { λ r. ⌜ r ≤ at + lineRoom * count ⌝ }
 {
     let mut p = at;
     for n in 0..count {
@@ -45,27 +52,36 @@ pub fn put_lines(packed: &[u8], count: usize, out: &mut [u8], at: usize) -> usiz
     p
 }
 
-// The first line.
-pub fn put_head(out: &mut [u8], count: usize) -> usize
-    requires { ⌜ 12 ≤ length (now out) ⌝ }
-    ensures { λ r. ⌜ Put (now (out .entry)) 0 (headText count) (now (out .exit)) r ⌝ }
-    ensures { λ r. ⌜ r ≤ 12 ⌝ }
+// What the first line has before the count: mark and version, and a space after each.
+fn put_mark(out: &mut [u8]) -> usize
+    requires { ⌜ headRoom ≤ length (now out) ⌝ }
+    ensures { λ r. ⌜ Put (now (out .entry)) 0 markText (now (out .exit)) r ⌝ }
+    ensures { λ r. ⌜ r ≤ 6 ⌝ }
 {
     let p1 = put(out, 0, MARK[0]);
     let p2 = put(out, p1, MARK[1]);
     let p3 = put(out, p2, MARK[2]);
     let p4 = put(out, p3, b' ');
     let p5 = put(out, p4, b'1');
-    let p6 = put(out, p5, b' ');
-    let p7 = put_decimal(out, p6, count);
-    put(out, p7, b'\n')
+    put(out, p5, b' ')
+}
+
+// The first line.
+pub fn put_head(out: &mut [u8], count: usize) -> usize
+    requires { ⌜ (headRoom ≤ length (now out)) × (count < beyond) ⌝ }
+    ensures { λ r. ⌜ Put (now (out .entry)) 0 (headText count) (now (out .exit)) r ⌝ }
+    ensures { λ r. ⌜ r ≤ headRoom ⌝ }
+{
+    let p1 = put_mark(out);
+    let p2 = put_decimal(out, p1, count);
+    put(out, p2, b'\n')
 }
 
 // The only line of a refused trace.
 pub fn put_refusal(out: &mut [u8], number: u8) -> usize
-    requires { ⌜ 12 ≤ length (now out) ⌝ }
+    requires { ⌜ headRoom ≤ length (now out) ⌝ }
     ensures { λ r. ⌜ Put (now (out .entry)) 0 (refusalText number) (now (out .exit)) r ⌝ }
-    ensures { λ r. ⌜ r ≤ 12 ⌝ }
+    ensures { λ r. ⌜ r ≤ headRoom ⌝ }
 {
     let p = put_kind(out, 0, b'X', number);
     put(out, p, b'\n')

@@ -1,20 +1,22 @@
 // The text of a trace, as mmurun prints it, into a lent buffer.
 ghost use mathlib.Core.Path.{_≡_};
 ghost use lib.ListN.{length};
+ghost use Rattle.run.specs.Run.{room};
 ghost use Rattle.listing.specs.Listed.{Listed, Counts};
+use header::MOST;
 use lines::put_head;
 use lines::put_lines;
 use lines::put_refusal;
 
-// The bytes that any text has room in: a first line of at most 12, and at most 25 for each of 16,000 records. The longest text is
-// that of 16,000 refused commands, 324,902 bytes.
-pub const ROOM: usize = 400012;
+// The bytes that any text has room in, 400,012: the longest first line, and the longest line for each record of the longest trace. The
+// longest text is that of 16,000 refused commands, 324,902 bytes.
+pub const ROOM: usize = lines::HEAD + lines::LINE * MOST;
 
 // Zeros, with room for the answers of the longest trace. Its length is all that matters.
-fn zeros() -> [u8; 96000]
-    ensures { λ r. ⌜ 96000 ≡ length r ⌝ }
+fn zeros() -> [u8; run::ROOM]
+    ensures { λ r. ⌜ room ≡ length r ⌝ }
 {
-    [0; 96000]
+    [0; run::ROOM]
 }
 
 // Fills the buffer with the text of the trace, and answers the text's length. A buffer that is shorter than ROOM is left as it was, and

@@ -7,10 +7,14 @@ use lib.Dec.{eqb, ltb}
 use lib.ListN.{length}
 use lib.Seq.{sets}
 use Rattle.header.specs.Header.{refusalOf}
-use Rattle.pack.specs.Packed.{bytesOf}
+use Rattle.pack.specs.Packed.{width, bytesOf}
 use Rattle.rules.specs.PowerOn.{powerOn}
 use Rattle.rules.specs.Runs.{answers}
 use Rattle.trace.specs.Trace.{givenOf, cyclesTo, cyclesOf}
+
+-- the bytes of the answers of the longest trace, which has 16,000 records
+abbrev pub room : ℕ
+room = width * 16000
 
 -- the buffer after the first n records of a trace
 unfoldable pub ranTo : List ℕ → (n : ℕ) → List ℕ → List ℕ
@@ -32,7 +36,7 @@ abbrev pub refused : List ℕ → Bool
 refused t = not (eqb (refusalOf t) 0)
 
 abbrev pub narrow : (t buffer : List ℕ) → Bool
-narrow t buffer = ltb (length buffer) (6 * givenOf t)
+narrow t buffer = ltb (length buffer) (width * givenOf t)
 
 -- what a run promises of its number and of the whole buffer
 pub record Ran (t before after : List ℕ) (number : ℕ) : Type 0 where

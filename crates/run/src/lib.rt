@@ -2,9 +2,11 @@
 ghost use mathlib.Core.Path.{_≡_};
 ghost use Prim.Native.Nat.{_*_, _+_, _≤_};
 ghost use lib.ListN.{length};
+ghost use Rattle.pack.specs.Packed.{width};
 ghost use Rattle.trace.specs.Trace.{recordAt, cycleOf};
 ghost use Rattle.run.specs.Run.{ranTo, Ran};
 use header::HEAD;
+use header::MOST;
 use header::RECORD;
 use header::refusal;
 use rules::Change;
@@ -13,6 +15,9 @@ use rules::Unit;
 use trace::count;
 use trace::decode;
 use unit::table;
+
+// The bytes of the answers of the longest trace.
+pub const ROOM: usize = pack::BYTES * MOST;
 
 // The number that says that the buffer has no room for all answers.
 pub const NO_ROOM: u8 = 255;
@@ -28,7 +33,7 @@ fn cycle_at(trace: &[u8], n: usize) -> Cycle
 
 // The first `count` records, answered into the buffer. The turn ends with the change of the table in place.
 fn run_to(trace: &[u8], count: usize, out: &mut [u8])
-    requires { ⌜ (count ≤ 16000) × (7 + 4 * count ≤ length (now trace)) × (6 * count ≤ length (now out)) ⌝ }
+    requires { ⌜ (count ≤ 16000) × (7 + 4 * count ≤ length (now trace)) × (width * count ≤ length (now out)) ⌝ }
     ensures { λ _. ⌜ now (out .exit) ≡ ranTo (now (trace .entry)) count (now (out .entry)) ⌝ }
 {
     let u = Unit::power_on();

@@ -4,7 +4,7 @@ ghost use mathlib.Core.Path.{_≡_};
 ghost use Prim.Native.Nat.{_+_, _<_, _≤_};
 ghost use lib.ListN.{length};
 ghost use Rattle.stores.specs.Put.{Put};
-ghost use Rattle.text.specs.Digits.{place, decimal, digit, two, dash};
+ghost use Rattle.text.specs.Digits.{beyond, place, decimal, value, digit, two, dash};
 use stores::put;
 
 // A decimal digit where the number reaches its place.
@@ -19,11 +19,12 @@ fn put_place(out: &mut [u8], at: usize, reached: bool, d: usize) -> usize
     at
 }
 
-// A number below 100,000 in decimal, with no zero in front.
+// A number below 100,000 in decimal, with no zero in front. The digits say the number: those of 100,000 would not.
 pub fn put_decimal(out: &mut [u8], at: usize, n: usize) -> usize
-    requires { ⌜ at + 5 ≤ length (now out) ⌝ }
+    requires { ⌜ (at + 5 ≤ length (now out)) × (n < beyond) ⌝ }
     ensures { λ r. ⌜ Put (now (out .entry)) at (decimal n) (now (out .exit)) r ⌝ }
     ensures { λ r. ⌜ r ≤ at + 5 ⌝ }
+    ensures { λ r. ⌜ value 0 (decimal n) ≡ n ⌝ }
 {
     let p4 = put_place(out, at, 10000 <= n, n / 10000 % 10);
     let p3 = put_place(out, p4, 1000 <= n, n / 1000 % 10);

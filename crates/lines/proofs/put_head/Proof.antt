@@ -1,5 +1,4 @@
 -- `lines::put_head` meets its contract: what its calls put, one after the other. Assumes nothing.
-use native.Mathlib.Omega.{arith}
 use Rattle.fields.specs.Fields.{headText}
 use Rattle.stores.proofs.Laws.{then}
 use borrow.Author.Needs.{needs}
@@ -9,36 +8,15 @@ use Rattle.lines.proofs.put_head.Tie as tie
 returns : tie.Need-returns
 unfolding headText
 returns c =
-    let at8 = c .before .before in
-    let at7 = at8 .before .before .before .before in
-    let at6 = at7 .before .before .before .before in
-    let at5 = at6 .before .before .before .before in
-    let at4 = at5 .before .before .before .before in
-    let at3 = at4 .before .before .before .before in
+    let at3 = c .before .before in
     let at2 = at3 .before .before .before .before in
-    let at1 = at2 .before .before .before .before in (
-      then (at1 .put .ensures .0)
-          (then (at2 .put2 .ensures .0)
-          (then (at3 .put3 .ensures .0)
-          (then (at4 .put4 .ensures .0)
-          (then (at5 .put5 .ensures .0)
-          (then (at6 .put6 .ensures .0)
-          (then (at7 .put-decimal .ensures .0) (at8 .put7 .ensures .0))))))),
-      omega (arith, at1 .put .ensures .1),
-    )
+    let at1 = at2 .before .before .before .before in
+    (then (at1 .put-mark .ensures .0) (then (at2 .put-decimal .ensures .0) (at3 .put .ensures .0)), search needs)
 
 pub put-head-spec : {M : Type 1} → statement M
 put-head-spec =
     tie.close
     (tie.spec
-    (λ c. search needs)
-    (λ c κs. search needs)
-    (λ c. search needs)
-    (λ c κs. search needs)
-    (λ c. search needs)
-    (λ c κs. search needs)
-    (λ c κs. search needs)
-    (λ c κs. search needs)
     (λ c κs. search needs)
     (λ c κs. search needs)
     (λ c κs. search needs)

@@ -8,6 +8,7 @@ use lib.ListN.{length, drop, length-drop}
 use lib.Seq.{sets, length-take-le}
 use Rattle.stores.specs.Put.{Put}
 use Rattle.stores.proofs.Laws.{before-all, after-all}
+use Rattle.text.specs.Digits.{beyond}
 use Rattle.lines.specs.Lines.{linesOf}
 use Rattle.lines.proofs.Turns.{linesFrom, from-start, from-end, turn}
 use borrow.Author.Needs.{needs}
@@ -16,7 +17,7 @@ use Rattle.lines.proofs.put_lines.Tie as tie
 
 abbrev Inv-loop : tie.InvT-loop
 Inv-loop packed count out₀ at p₀ n₀ out p n =
-    (n ≤ count) × (length out ≡ length out₀) × (p ≤ at + 25 * n)
+    (n ≤ count) × (count ≤ beyond) × (length out ≡ length out₀) × (p ≤ at + 25 * n)
     × Put out p (linesFrom packed count n) (sets out₀ at (linesOf 0 count packed)) (at + length (linesOf 0 count packed))
 
 abbrev μ-loop : tie.MeasureT-loop
@@ -26,6 +27,7 @@ loop-holds : tie.Need-loop-holds Inv-loop μ-loop
 loop-holds c =
     let start = c .before .before .args in
     let packed = now (start .packed) in (
+      search needs,
       search needs,
       search needs,
       search needs,
@@ -53,7 +55,7 @@ put-line-requires c κs =
     let start = head .before .before .before .args in
     let from = 6 * head .loop .n in
     let left : 6 ≤ length (drop from (now (start .packed))) = simp length-drop (omega arith) in
-    (search needs, rw (add-sub-cancel-left from 6) (length-take-le 6 (drop from (now (start .packed))) left))
+    (search needs, search needs, rw (add-sub-cancel-left from 6) (length-take-le 6 (drop from (now (start .packed))) left))
 
 add-n : tie.Need-add-n Inv-loop μ-loop
 add-n c = search needs
@@ -71,7 +73,8 @@ loop-again c =
       search needs,
       search needs,
       search needs,
-      turn (now (start .packed)) (start .count) (head .loop .n) (put .before .before .before .loop-test .taken) (head .loop .inv .3) line,
+      search needs,
+      turn (now (start .packed)) (start .count) (head .loop .n) (put .before .before .before .loop-test .taken) (head .loop .inv .4) line,
     )
 
 same-length : tie.Need-same-length Inv-loop μ-loop
@@ -81,7 +84,7 @@ returns : tie.Need-returns Inv-loop μ-loop
 returns c =
     let head = c .before in
     let start = head .before .before .before .args in
-    (after-all (rw (from-end (now (start .packed)) (start .count) (head .loop .n) (c .loop-test .left)) at (head .loop .inv .3)), search needs)
+    (after-all (rw (from-end (now (start .packed)) (start .count) (head .loop .n) (c .loop-test .left)) at (head .loop .inv .4)), search needs)
 
 pub put-lines-spec : {M : Type 1} → statement M
 put-lines-spec =

@@ -34,6 +34,13 @@ came-to : (c : tie.After-run) → (c .run .result ≡ refusalOf (traceOf c))
     → c .run .last .1 .0 ≡ sets (c .before .before .zeros .result) 0 (bytesOf (answers powerOn (cyclesOf (traceOf c)))))
 came-to c = roomy (c .run .ensures) (omega (arith, c .before .before .zeros .ensures))
 
+put-head-requires : tie.Need-put-head-requires
+put-head-requires c κs =
+    let counted = c .before in
+    let ran = counted .before .before .before in
+    let few : givenOf (traceOf ran) ≤ 16000 = fits (traceOf ran) (sym (came-to ran .0) ∙ counted .before .if2 .taken) .0 in
+    (omega (arith, ran .before .before .before .if1 .left), omega (arith, few, counted .count .ensures))
+
 put-lines-requires : tie.Need-put-lines-requires
 put-lines-requires c κs =
     let counted = c .before .before .before .before .before .before in
@@ -45,6 +52,7 @@ put-lines-requires c κs =
     ap length (came-to ran .1 none) ∙ simp length-sets in (
       omega (arith, few, same, counted .count .ensures, ran .before .before .zeros .ensures),
       omega (arith, few, counted .count .ensures, ran .before .before .before .if1 .left),
+      omega (arith, few, counted .count .ensures),
     )
 
 returns-2 : tie.Need-returns-2
@@ -81,7 +89,7 @@ list-spec =
     (λ c. search needs)
     (λ c κs. search needs)
     (λ c κs. search needs)
-    (λ c κs. search needs)
+    put-head-requires
     (λ c. search needs)
     put-lines-requires
     (λ c. search needs)

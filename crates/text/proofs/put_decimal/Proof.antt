@@ -1,6 +1,8 @@
 -- `text::put_decimal` meets its contract: what its calls put, one after the other. Assumes nothing.
+use native.Mathlib.Omega.{arith}
 use Rattle.text.specs.Digits.{decimal}
 use Rattle.stores.proofs.Laws.{then}
+use Rattle.text.proofs.Decimal.{decimal-value}
 use borrow.Author.Needs.{needs}
 use Rattle.text.proofs.put_decimal.Statement.{statement}
 use Rattle.text.proofs.put_decimal.Tie as tie
@@ -17,7 +19,7 @@ returns c =
           (then (at2 .put-place2 .ensures .0)
           (then (at3 .put-place3 .ensures .0)
           (then (at4 .put-place4 .ensures .0) (at5 .put-place5 .ensures .0)))),
-      search needs,
+      (search needs, decimal-value (at1 .before .before .before .args .n) (omega arith)),
     )
 
 pub put-decimal-spec : {M : Type 1} → statement M
