@@ -1,15 +1,34 @@
 // mmurun: reads a trace from standard input, and writes the text that `listing` makes of it to standard output.
+ghost use mathlib.Core.Path.{_≡_};
+ghost use Prim.Native.Nat.{_≤_};
+ghost use lib.ListN.{length};
+ghost use lib.Seq.{sets};
+ghost use Rattle.listing.specs.Listed.{room};
+ghost use Rattle.listing.specs.Text.{printed};
 use libc::STDIN_FILENO;
 use libc::STDOUT_FILENO;
 
-// Writes the text of the trace, by way of `text`. Where standard output is closed or fails, the rest is not written, and the program ends.
-fn show(trace: &[u8], text: &mut [u8]) {
+// Writes the text of the trace, and asks that it is that: so nothing else is ever handed to be written. Where standard output is closed or
+// fails, the rest is not written, and the program ends.
+fn write_text(trace: &[u8], text: &[u8])
+    requires { ⌜ now text ≡ printed (now trace) ⌝ }
+{
+    io::write_all(STDOUT_FILENO, text);
+}
+
+// Writes the text of the trace by way of `text`, which holds it afterwards.
+fn show(trace: &[u8], text: &mut [u8])
+    requires { ⌜ room ≤ length (now text) ⌝ }
+    ensures { λ _. ⌜ now (text .exit) ≡ sets (now (text .entry)) 0 (printed (now (trace .entry))) ⌝ }
+{
     let n = listing::list(trace, text);
-    io::write_all(STDOUT_FILENO, &text[..n]);
+    write_text(trace, &text[..n]);
 }
 
 // Room for the longest text. An array of this size in `main` itself would make its proof slow.
-fn room() -> [u8; listing::ROOM] {
+fn room() -> [u8; listing::ROOM]
+    ensures { λ r. ⌜ length r ≡ room ⌝ }
+{
     [0; listing::ROOM]
 }
 
