@@ -1,10 +1,17 @@
 // Runs a trace many times from power-on and writes the packed answers of the last run: what the benchmark times, with no text.
+use header::HEAD;
+use header::MOST;
+use header::RECORD;
 use libc::STDIN_FILENO;
 use libc::STDOUT_FILENO;
 
 // How often. The witness is told the same number.
 const RUNS: usize = 500;
 
+// One byte more than the longest good trace, so that a longer one is refused.
+const TRACE: usize = HEAD + RECORD * MOST + 1;
+
+// The trace run that often; the answers of the last run are left.
 fn again(trace: &[u8], answers: &mut [u8]) -> u8 {
     let mut number = 0;
     for _turn in 0..RUNS {
@@ -26,8 +33,8 @@ fn show(trace: &[u8], answers: &mut [u8]) {
 }
 
 fn main() {
-    let mut trace = [0u8; 64008];
+    let mut trace = [0u8; TRACE];
     let n = io::read_full(STDIN_FILENO, &mut trace);
-    let mut answers = [0u8; 96000];
+    let mut answers = [0u8; run::ROOM];
     show(&trace[..n], &mut answers);
 }

@@ -1,11 +1,15 @@
 // What the program writes.
+use crate::parse::PLACES;
 use crate::parse::byte_at;
 use libc::STDOUT_FILENO;
-use registers::flags;
 use rules::Answer;
-use rules::Notes;
+use rules::Descriptor;
+use rules::Registers;
 use rules::Stepped;
 use rules::Unit;
+
+// The bytes of the form that ends a cycle's line.
+const ENDING: usize = 49;
 
 // Some bytes as they are.
 fn text(s: &[u8]) {
@@ -25,46 +29,53 @@ pub fn other(line: &[u8]) {
 
 // The answer, as mmurun's line of record 0 has it behind the number.
 fn answer(a: Answer) {
-    let mut six = [0u8; 6];
+    let mut six = [0u8; pack::BYTES];
     pack::put(&mut six, 0, a);
-    let mut line = [0u8; 25];
+    let mut line = [0u8; lines::LINE];
     let n = lines::put_lines(&six, 1, &mut line, 0);
     if 3 < n {
         text(&line[2..n - 1]);
     }
 }
 
-// The notes as a script's `U` line has them.
-fn notes_byte(n: Notes) -> u8 {
-    flags::flag_if(n.request, 1)
-        | flags::flag_if(n.awaits, 2)
-        | flags::flag_if(n.own, 4)
-        | flags::flag_if(n.hold, 8)
+// The registers and the notes as a unit's bytes have them.
+fn registers_of(r: Registers) -> [u8; snapshot::TABLE] {
+    let mut bytes = [0; snapshot::TABLE];
+    snapshot::put_registers(&mut bytes, r);
+    bytes
+}
+
+// A descriptor as a unit's bytes have it.
+fn descriptor_of(d: Descriptor) -> [u8; snapshot::DESCRIPTOR] {
+    let mut bytes = [0; snapshot::DESCRIPTOR];
+    snapshot::put_descriptor(&mut bytes, 0, d);
+    bytes
 }
 
 // The registers, and the descriptor at a number modulo 64, in the places that the lines of a script give them.
-fn values_of(u: Unit, place: u8) -> [u8; 16] {
-    let r = u.registers;
-    let notes = r.notes;
+fn values_of(u: Unit, place: u8) -> [u8; PLACES] {
+    let registers = u.registers;
     let i = (place % Unit::SEGMENTS) as usize;
     let d = u.table[i];
+    let r = registers_of(registers);
+    let e = descriptor_of(d);
     [
         0,
-        r.control.mr,
-        r.control.sar,
-        r.control.dscr,
-        r.faults.vtr,
-        r.faults.vsn,
-        r.faults.voff,
-        r.faults.bcsr,
-        r.fetched.isn,
-        r.fetched.ioff,
-        notes_byte(notes),
+        r[0],
+        r[1],
+        r[2],
+        r[3],
+        r[4],
+        r[5],
+        r[6],
+        r[7],
+        r[8],
+        r[9],
         place,
-        (d.base / 256) as u8,
-        (d.base % 256) as u8,
-        d.limit,
-        d.attributes,
+        e[0],
+        e[1],
+        e[2],
+        e[3],
     ]
 }
 
@@ -79,7 +90,7 @@ fn digit(n: u8) -> u8 {
 
 // What the text has where its form has `f`: at a capital (%41 to %4F) the first digit of the number in that place, at a small letter (%61
 // to %6F) the second.
-fn filled(f: u8, values: [u8; 16]) -> u8 {
+fn filled(f: u8, values: [u8; PLACES]) -> u8 {
     let v = values[(f % 16) as usize];
     let letters = f / 16;
     match letters {
@@ -90,9 +101,9 @@ fn filled(f: u8, values: [u8; 16]) -> u8 {
 }
 
 // The values in the form that ends a cycle's line.
-fn numbers(values: [u8; 16]) {
-    let mut line = *b" | Aa Bb Cc Dd Ee Ff Gg Hh Ii Jj | Kk LlMm Nn Oo\n";
-    for i in 0..49 {
+fn numbers(values: [u8; PLACES]) {
+    let mut line: [u8; ENDING] = *b" | Aa Bb Cc Dd Ee Ff Gg Hh Ii Jj | Kk LlMm Nn Oo\n";
+    for i in 0..ENDING {
         line[i] = filled(line[i], values);
     }
     text(&line);

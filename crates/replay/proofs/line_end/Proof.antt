@@ -1,9 +1,9 @@
--- `replay::run::line_end` meets its contract: the index stays within the script, and each turn passes a byte. Assumes nothing.
+-- `replay::line_end` meets its contract: the index stays within the script, and each turn passes a byte. Assumes nothing.
 use Prim.Native.Nat.{_≤_, _-_}
 use borrow.Author.Needs.{needs}
 use lib.ListN.{length}
-use Rattle.replay.proofs.run.line_end.Statement.{statement}
-use Rattle.replay.proofs.run.line_end.Tie as tie
+use Rattle.replay.proofs.line_end.Statement.{statement}
+use Rattle.replay.proofs.line_end.Tie as tie
 
 abbrev Inv-loop : tie.InvT-loop
 Inv-loop script from i₀ i = (from ≤ i) × (i ≤ length script)

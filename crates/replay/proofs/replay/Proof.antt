@@ -1,9 +1,9 @@
--- `replay::run::replay` is safe and ends: each turn passes a line. Assumes nothing.
+-- `replay::replay` is safe and ends: each turn passes a line. Assumes nothing.
 use Prim.Native.Nat.{_-_}
 use borrow.Author.Needs.{needs}
 use lib.ListN.{length}
-use Rattle.replay.proofs.run.replay.Statement.{statement}
-use Rattle.replay.proofs.run.replay.Tie as tie
+use Rattle.replay.proofs.replay.Statement.{statement}
+use Rattle.replay.proofs.replay.Tie as tie
 
 abbrev Inv-loop : tie.InvT-loop
 Inv-loop script unit₀ from₀ unit from = Unit {0}
