@@ -33,7 +33,7 @@ pub stays : (t : List ℕ) (n : ℕ) → (recordRefusalOf t n ≡ 0 → ⊥) →
 unfolding givenAt afterOf
 stays t n ne = (simp (ne-eqb _ 0 ne), simp (ne-eqb _ 0 ne))
 
-abbrev at : RefT (List ℕ) → ℕ → Reader
+abbrev pub at : RefT (List ℕ) → ℕ → Reader
 at t n = record { trace = t; next = n }
 
 -- asked so many times, up to its count, a reader stands at that number and has given so many cycles

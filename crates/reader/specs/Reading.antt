@@ -34,8 +34,7 @@ givenBy false c = []
 unfoldable pub givenAt : List ℕ → (n : ℕ) → List Cycle
 givenAt t n = givenBy (eqb (recordRefusalOf t n) 0) (cycleOf (partOf t n))
 
--- an answer for record n of a trace has the number that refuses the record, and the record's values. No second answer has both (`Answers`,
--- proofs/).
+-- an answer for record n has the number that refuses the record, and the values for it. No second answer has both (`Answers`, proofs/).
 abbrev pub Answers : List ℕ → (n : ℕ) → Step → Type 0
 Answers t n s = (numberOf s ≡ recordRefusalOf t n) × (valuesOf s ≡ givenAt t n)
 

@@ -12,7 +12,7 @@ unfolding marked pair refusalOf givenOf
 counts-hold = refl
 
 -- record n of a trace, as the definitions have it
-abbrev found : List ℕ → ℕ → Place
+abbrev pub found : List ℕ → ℕ → Place
 found t n = place t n (recordRefusalOf t n) (startsAt t n) (partOf t n)
 
 pub places-hold : map (λ (p : Place). found (p .trace) (p .n)) places ≡ places
