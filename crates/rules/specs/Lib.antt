@@ -19,7 +19,14 @@ pub mod Commands
 -- one cycle as a whole: what is decided, and the unit after it; and cycles one after another
 pub mod Step
 pub mod Runs
--- "Proved rows"
+-- what rows are made of; "Proved rows"; rows for the lists of flags, bounds, status codes and command codes, and for memory cycles
+pub mod Seen
 pub mod Rows
+pub mod FlagRows
+pub mod CycleRows
+pub mod MemoryRows
+pub mod CodeRows
 -- the kinds of "The trace"
 pub mod Kinds
+-- for tests that the checker computes
+pub mod Computed

@@ -1,0 +1,142 @@
+-- Document 01, "Fetch", "SUP" and "Recording", a second time and in another form: what each sentence leaves in a unit in which every register
+-- has a value of its own. `Lists` (proofs/) shows that all of it holds of the rules.
+use mathlib.Core.Bool.{Bool, true, false}
+use mathlib.Core.List.{List, [], _∷_, _++_}
+use Prim.Native.Nat.{ℕ}
+use Rattle.rules.specs.Seen.{Row, row, segment, faults, notes, noNote, warned, everyNote, unitOf, cycle}
+use Rattle.rules.specs.Seen.{drivesBlock, drivesNothing, translated}
+use Rattle.rules.specs.declared.Cycle.{Cycle}
+use Rattle.rules.specs.declared.Notes.{Notes}
+use Rattle.rules.specs.declared.Unit.{Unit}
+use Rattle.rules.specs.declared.Kind.the-variants as kind
+
+-- a unit by MR, VTR, notes and the attributes of segment 5, which has base %2300 and limit %40
+abbrev pub unitAs : (mr vtr : ℕ) → Notes → (attributes : ℕ) → Unit
+unitAs mr vtr n a = unitOf mr 0 0 (faults vtr 0x2A 0x9C 0x38) 0x13 0x71 n 5 (segment 0x2300 0x40 a)
+
+-- the same that translates; and with an instruction of segment 5 stored
+abbrev pub unitIn : (vtr : ℕ) → Notes → (attributes : ℕ) → Unit
+unitIn = unitAs 0xC0
+
+abbrev pub fetchedAt : (mr ioff : ℕ) → Notes → (attributes : ℕ) → Unit
+fetchedAt mr ioff n a = unitOf mr 0 0 (faults 0 0x2A 0x9C 0x38) 5 ioff n 5 (segment 0x2300 0x40 a)
+
+-- cycles of segment 5
+abbrev pub fetchAt : (offset : ℕ) → Cycle
+fetchAt o = cycle false true true 0xD 5 o
+
+abbrev pub readAt : (offset : ℕ) → Cycle
+readAt o = cycle false true true 0x8 5 o
+
+abbrev pub writeAt : (normal : Bool) → (status offset : ℕ) → Cycle
+writeAt m status o = cycle false false m status 5 o
+
+-- the request alone
+abbrev pub requested : Notes
+requested = notes true false false false
+
+-- "If await is set, this is the aborted fetch: await, own and hold are cleared, the address is driven as below, SUP is off, and nothing is
+-- checked or recorded." Offset %41 is past the limit, and %04 is CPUI.
+abbrev pub abortedFetches : List Row
+abortedFetches =
+    row (unitIn 0 everyNote 0) (fetchAt 0x15) (drivesBlock kind.Aborted 0x2315 false true) (unitIn 0 requested 0) ∷
+    row (unitIn 0x08 everyNote 0x04) (fetchAt 0x41) (drivesBlock kind.Aborted 0x2341 false true) (unitIn 0x08 requested 0x04) ∷
+    row (unitIn 0 (notes false true true true) 0) (fetchAt 0x15) (drivesBlock kind.Aborted 0x2315 false false) (unitIn 0 noNote 0) ∷
+    row (unitAs 0x80 0 everyNote 0) (fetchAt 0x15) (drivesBlock kind.Aborted 0x0515 false true) (unitAs 0x80 0 requested 0) ∷
+    row (unitAs 0 0 everyNote 0) (fetchAt 0x15) (drivesNothing kind.Aborted false true) (unitAs 0 0 requested 0) ∷
+    []
+
+-- "Otherwise own and hold are cleared first, and the cycle goes on." "A CPU read at %D translated without violation, not aborted, stores ISN
+-- (segment modulo 64) and IOFF while VTR is zero."
+abbrev pub fetches : List Row
+fetches =
+    row (unitIn 0 (notes true false true true) 0) (fetchAt 0x15) (translated 0x2315 false true) (fetchedAt 0xC0 0x15 requested 0x80) ∷
+    row (unitAs 0xE0 0 noNote 0) (cycle false true true 0xD 69 0x15) (translated 0x2315 false false) (fetchedAt 0xE0 0x15 noNote 0x80) ∷
+    row (unitIn 0x20 (notes true false true true) 0) (fetchAt 0x15) (translated 0x2315 false true) (unitIn 0x20 requested 0x80) ∷
+    row (unitIn 0x20 (notes true false true true) 0) (fetchAt 0x41) (translated 0x2341 true true)
+    (unitIn 0xA0 (notes true true false true) 0) ∷
+    row (unitIn 0 noNote 0) (fetchAt 0x41) (translated 0x2341 true true)
+    (unitOf 0xC0 0 0 (faults 0x04 5 0x41 0x3D) 0x13 0x71 everyNote 5 (segment 0x2300 0x40 0)) ∷
+    row (unitAs 0x80 0 (notes true false true true) 0) (fetchAt 0x15) (drivesBlock kind.Passed 0x0515 false true) (unitAs 0x80 0 requested 0) ∷
+    row (unitAs 0 0 (notes true false true true) 0) (fetchAt 0x15) (drivesNothing kind.Ignored false true) (unitAs 0 0 requested 0) ∷
+    []
+
+-- "A CPU read with status %D starts an instruction"; "A write with status %D starts nothing and records no instruction address."
+abbrev pub noFetches : List Row
+noFetches =
+    row (unitIn 0 everyNote 0) (writeAt true 0xD 0x15) (translated 0x2315 true true) (unitIn 0 everyNote 0) ∷
+    row (unitIn 0 noNote 0) (writeAt true 0xD 0x15) (translated 0x2315 false false) (unitIn 0 noNote 0xC0) ∷
+    row (unitIn 0 everyNote 0) (cycle true true true 0xD 5 0x15) (translated 0x2315 false true) (unitIn 0 everyNote 0x80) ∷
+    row (unitIn 0 everyNote 0) (cycle false true true 0xC 5 0x15) (translated 0x2315 true true) (unitIn 0 everyNote 0) ∷
+    row (unitIn 0 noNote 0) (cycle false true true 0xC 5 0x15) (translated 0x2315 false false) (unitIn 0 noNote 0x80) ∷
+    []
+
+-- "SUP is on exactly for a violation of this cycle, or, for any CPU memory cycle, translated or not, while hold was already set."
+abbrev pub suppresses : List Row
+suppresses =
+    row (unitIn 0 everyNote 0) (readAt 0x15) (translated 0x2315 true true) (unitIn 0 everyNote 0) ∷
+    row (unitAs 0x80 0 everyNote 0) (readAt 0x15) (drivesBlock kind.Passed 0x0515 true true) (unitAs 0x80 0 everyNote 0) ∷
+    row (unitAs 0 0 everyNote 0) (readAt 0x15) (drivesNothing kind.Ignored true true) (unitAs 0 0 everyNote 0) ∷
+    row (unitIn 0 everyNote 0) (cycle true true true 8 5 0x15) (translated 0x2315 false true) (unitIn 0 everyNote 0x80) ∷
+    row (unitAs 0x80 0 everyNote 0) (cycle true true true 8 5 0x15) (drivesBlock kind.Passed 0x0515 false true) (unitAs 0x80 0 everyNote 0) ∷
+    row (unitAs 0 0 everyNote 0) (cycle true true true 8 5 0x15) (drivesNothing kind.Ignored false true) (unitAs 0 0 everyNote 0) ∷
+    row (unitIn 0 everyNote 0) (cycle true true true 8 5 0x41) (translated 0x2341 true true) (unitIn 0 everyNote 0) ∷
+    []
+
+-- Recording. A violation below is a read past the limit, a warning a write at %40 of a stack (DIRW, %20) down to there.
+
+-- by a VTR and notes: a violation leaves a VTR and notes
+abbrev pub violates : (vtr : ℕ) → Notes → (trap : Bool) → (left : ℕ) → Notes → Row
+violates vtr n trap left m = row (unitIn vtr n 0) (readAt 0x41) (translated 0x2341 true trap) (unitIn left m 0)
+
+-- the same of a warning, not suppressed, in a mode and at a status: it marks the descriptor
+abbrev pub warns : (normal : Bool) → (status vtr : ℕ) → Notes → (trap : Bool) → (left : ℕ) → Notes → Row
+warns m status vtr n trap left k =
+    row (unitIn vtr n 0x20) (writeAt m status 0x40) (translated 0x2340 false trap) (unitIn left k 0xE0)
+
+-- "A primary flag, and own set: flags are added, nothing else; addresses stay." "Every CPU violation also sets hold."
+abbrev pub sameInstruction : List Row
+sameInstruction =
+    violates 0x01 everyNote true 0x05 everyNote ∷
+    violates 0x20 warned true 0x24 everyNote ∷
+    violates 0xA0 (notes false false true false) false 0xA4 (notes false false true true) ∷
+    warns false 0x9 0x01 warned true 0x21 warned ∷
+    warns true 0x8 0x01 (notes false false true false) false 0x21 (notes false false true false) ∷
+    row (unitIn 0x01 everyNote 0x20) (writeAt true 0x8 0x40) (translated 0x2340 true true) (unitIn 0x21 everyNote 0x20) ∷
+    []
+
+-- "A primary flag, own clear, violation: FATL is set; request and await only if FATL was clear."
+abbrev pub fatal : List Row
+fatal =
+    violates 0x01 noNote true 0x81 (notes true true false true) ∷
+    violates 0x61 requested true 0xE1 (notes true true false true) ∷
+    violates 0x81 noNote false 0x81 (notes false false false true) ∷
+    []
+
+-- "A primary flag, own clear, warning in system mode at status %9: if SWW is clear it is set, with request and await only while FATL is clear.
+-- If SWW stands, nothing." "The same, any other warning: as for a violation, FATL."
+abbrev pub laterWarnings : List Row
+laterWarnings =
+    warns false 0x9 0x01 noNote true 0x41 (notes true true false false) ∷
+    warns false 0x9 0x81 noNote false 0xC1 noNote ∷
+    warns false 0x9 0x41 noNote false 0x41 noNote ∷
+    warns false 0x9 0xC1 noNote false 0xC1 noNote ∷
+    warns true 0x9 0x01 noNote true 0x81 (notes true true false false) ∷
+    warns false 0xB 0x01 noNote true 0x81 (notes true true false false) ∷
+    warns false 0x8 0x41 noNote true 0xC1 (notes true true false false) ∷
+    warns true 0xD 0x81 noNote false 0x81 noNote ∷
+    []
+
+-- "A warning is a CPU write without violation, DIRW set, offset byte equal to limit.": not a read, not DMA, not with DIRW clear, and with a
+-- violation (RD, %01) that violation alone
+abbrev pub noWarnings : List Row
+noWarnings =
+    row (unitIn 0 noNote 0x20) (readAt 0x40) (translated 0x2340 false false) (unitIn 0 noNote 0xA0) ∷
+    row (unitIn 0 noNote 0x20) (cycle true false true 8 5 0x40) (translated 0x2340 false false) (unitIn 0 noNote 0xE0) ∷
+    row (unitIn 0 noNote 0) (writeAt true 0x8 0x40) (translated 0x2340 false false) (unitIn 0 noNote 0xC0) ∷
+    row (unitIn 0x04 everyNote 0x21) (writeAt true 0x8 0x40) (translated 0x2340 true true) (unitIn 0x05 everyNote 0x21) ∷
+    []
+
+abbrev pub memoryRows : List Row
+memoryRows =
+    abortedFetches ++ (fetches ++ (noFetches ++ (suppresses ++ (sameInstruction ++ (fatal ++ (laterWarnings ++ noWarnings))))))

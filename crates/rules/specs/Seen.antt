@@ -1,0 +1,230 @@
+-- What the rows of `Rows` and `Lists` are made of. A row is a unit, the cycles before, the cycle that is looked at, its whole answer and the
+-- whole unit that is left. Units and answers are written out here by their values, with nothing from the rules that they are held to.
+use mathlib.Core.Bool.{Bool, true, false, _&&_}
+use mathlib.Core.List.{List, [], _∷_}
+use Prim.Native.Nat.{ℕ, zero, suc}
+use lib.Dec.{eqb}
+use lib.ListN.{set}
+use Rattle.rules.specs.Kinds.{letterOf, numberOf}
+use Rattle.rules.specs.PowerOn.{powerOn}
+use Rattle.rules.specs.Step.{stepped}
+use Rattle.rules.specs.Runs.{final}
+use Rattle.rules.specs.declared.Answer.{Answer}
+use Rattle.rules.specs.declared.Cycle.{Cycle}
+use Rattle.rules.specs.declared.Descriptor.{Descriptor}
+use Rattle.rules.specs.declared.Faults.{Faults}
+use Rattle.rules.specs.declared.Kind.{Kind}
+use Rattle.rules.specs.declared.Notes.{Notes}
+use Rattle.rules.specs.declared.Registers.{Registers}
+use Rattle.rules.specs.declared.Stepped.{Stepped}
+use Rattle.rules.specs.declared.Unit.{Unit}
+use Rattle.rules.specs.declared.Kind.the-variants as kind
+
+pub record Row : Type 0 where
+  pub unit : Unit
+  pub before : List Cycle
+  pub cycle : Cycle
+  pub answer : Answer
+  pub left : Unit
+
+abbrev pub row : Unit → Cycle → Answer → (left : Unit) → Row
+row u c a l = record { unit = u; before = []; cycle = c; answer = a; left = l }
+
+abbrev pub rowAfter : Unit → List Cycle → Cycle → Answer → (left : Unit) → Row
+rowAfter u cs c a l = record { unit = u; before = cs; cycle = c; answer = a; left = l }
+
+-- When a row holds: every value of the answer and of the unit is as the row says.
+
+abbrev pub sameBit : Bool → Bool → Bool
+sameBit true b = b
+sameBit false true = false
+sameBit false false = true
+
+abbrev pub sameAnswer : Answer → Answer → Bool
+sameAnswer a b =
+    eqb (letterOf (a .kind)) (letterOf (b .kind)) && eqb (numberOf (a .kind)) (numberOf (b .kind))
+    && sameBit (a .lines .driven) (b .lines .driven) && eqb (a .lines .block) (b .lines .block)
+    && sameBit (a .sup) (b .sup) && sameBit (a .trap) (b .trap)
+    && sameBit (a .drives) (b .drives) && eqb (a .byte) (b .byte)
+
+abbrev pub sameTable : List Descriptor → List Descriptor → Bool
+sameTable [] [] = true
+sameTable [] (e ∷ es) = false
+sameTable (d ∷ ds) [] = false
+sameTable (d ∷ ds) (e ∷ es) =
+    eqb (d .base) (e .base) && eqb (d .limit) (e .limit) && eqb (d .attributes) (e .attributes) && sameTable ds es
+
+abbrev pub sameNotes : Notes → Notes → Bool
+sameNotes n m =
+    sameBit (n .request) (m .request) && sameBit (n .awaits) (m .awaits) && sameBit (n .own) (m .own) && sameBit (n .hold) (m .hold)
+
+abbrev pub sameRegisters : Registers → Registers → Bool
+sameRegisters r q =
+    eqb (r .control .mr) (q .control .mr) && eqb (r .control .sar) (q .control .sar) && eqb (r .control .dscr) (q .control .dscr)
+    && eqb (r .faults .vtr) (q .faults .vtr) && eqb (r .faults .vsn) (q .faults .vsn)
+    && eqb (r .faults .voff) (q .faults .voff) && eqb (r .faults .bcsr) (q .faults .bcsr)
+    && eqb (r .fetched .isn) (q .fetched .isn) && eqb (r .fetched .ioff) (q .fetched .ioff)
+    && sameNotes (r .notes) (q .notes)
+
+abbrev pub agrees : Stepped → Answer → (left : Unit) → Bool
+agrees s a l = sameAnswer (s .answer) a && sameRegisters (s .unit .registers) (l .registers) && sameTable (s .unit .table) (l .table)
+
+-- the row holds of the rules
+abbrev pub holds : Row → Bool
+holds r = agrees (stepped (final (r .unit) (r .before)) (r .cycle)) (r .answer) (r .left)
+
+abbrev pub allHold : List Row → Bool
+allHold [] = true
+allHold (r ∷ rs) = holds r && allHold rs
+
+-- the rows f 0 to f (n - 1)
+abbrev pub below : ℕ → (ℕ → Row) → List Row
+below zero f = []
+below (suc n) f = f n ∷ below n f
+
+-- Units
+
+abbrev pub segment : (base limit attributes : ℕ) → Descriptor
+segment base limit attributes = record { base = base; limit = limit; attributes = attributes }
+
+abbrev pub faults : (vtr vsn voff bcsr : ℕ) → Faults
+faults vtr vsn voff bcsr = record { vtr = vtr; vsn = vsn; voff = voff; bcsr = bcsr }
+
+abbrev pub notes : (request awaits own hold : Bool) → Notes
+notes request awaits own hold = record { request = request; awaits = awaits; own = own; hold = hold }
+
+abbrev pub noNote : Notes
+noNote = notes false false false false
+
+-- request, await and own of a first entry, and with hold
+abbrev pub warned : Notes
+warned = notes true true true false
+
+abbrev pub everyNote : Notes
+everyNote = notes true true true true
+
+-- a unit by all its registers, in document 01's order, and one descriptor
+abbrev pub unitOf : (mr sar dscr : ℕ) → Faults → (isn ioff : ℕ) → Notes → (number : ℕ) → Descriptor → Unit
+unitOf mr sar dscr f isn ioff n number d = record {
+  table = set (powerOn .table) number d;
+  registers = record {
+    control = record { mr = mr; sar = sar; dscr = dscr };
+    faults = f;
+    fetched = record { isn = isn; ioff = ioff };
+    notes = n;
+  };
+}
+
+-- a unit with MR and one descriptor, else as at power-on
+abbrev pub unitWith : (mr number : ℕ) → Descriptor → Unit
+unitWith mr n d = unitOf mr 0 0 (faults 0 0 0 0) 0 0 noNote n d
+
+-- MSEN and TRNS, what stands in the faults and notes, and segment 0
+abbrev pub standing : Faults → Notes → Descriptor → Unit
+standing f n d = unitOf 0xC0 0 0 f 0 0 n 0 d
+
+abbrev pub translating : Descriptor → Unit
+translating d = unitWith 0xC0 0 d
+
+-- Cycles
+
+-- a cycle of the CPU or of DMA, not selected
+abbrev pub cycle : (dma read normal : Bool) → (status number offset : ℕ) → Cycle
+cycle dma read normal status number offset = record {
+  status = status;
+  read = read;
+  normal = normal;
+  dma = dma;
+  select = false;
+  segment = number;
+  offset = offset;
+  byte = 0;
+  reset = false;
+}
+
+-- normal data read and write at an offset byte of segment 0
+abbrev pub reads : (offset : ℕ) → Cycle
+reads offset = cycle false true true 8 0 offset
+
+abbrev pub writes : (offset : ℕ) → Cycle
+writes offset = cycle false false true 8 0 offset
+
+-- a write to the system stack, segment 0
+abbrev pub pushes : (offset : ℕ) → Cycle
+pushes offset = cycle false false false 9 0 offset
+
+abbrev pub acknowledge : Cycle
+acknowledge = cycle false true false 4 0 0
+
+-- a selected command of the CPU
+abbrev pub command : (read : Bool) → (code byte : ℕ) → Cycle
+command read code b = record {
+  status = 3;
+  read = read;
+  normal = false;
+  dma = false;
+  select = true;
+  segment = 0;
+  offset = code;
+  byte = b;
+  reset = false;
+}
+
+-- the reset line on, with a status and select
+abbrev pub resetAt : (status : ℕ) → (select : Bool) → Cycle
+resetAt status select = record {
+  status = status;
+  read = true;
+  normal = false;
+  dma = false;
+  select = select;
+  segment = 0;
+  offset = 0;
+  byte = 0;
+  reset = true;
+}
+
+abbrev pub resets : Cycle
+resets = resetAt 0 false
+
+-- Answers
+
+-- the address driven, and no data byte
+abbrev pub drivesBlock : Kind → (block : ℕ) → (sup trap : Bool) → Answer
+drivesBlock k block sup trap = record {
+  kind = k;
+  lines = record { driven = true; block = block };
+  sup = sup;
+  trap = trap;
+  drives = false;
+  byte = 0;
+}
+
+-- the data byte driven, and no address
+abbrev pub drivesByte : Kind → (byte : ℕ) → (trap : Bool) → Answer
+drivesByte k b trap = record {
+  kind = k;
+  lines = record { driven = false; block = 0 };
+  sup = false;
+  trap = trap;
+  drives = true;
+  byte = b;
+}
+
+-- "not driven, [..] marked so and has the value 0"
+abbrev pub drivesNothing : Kind → (sup trap : Bool) → Answer
+drivesNothing k sup trap = record {
+  kind = k;
+  lines = record { driven = false; block = 0 };
+  sup = sup;
+  trap = trap;
+  drives = false;
+  byte = 0;
+}
+
+abbrev pub translated : (block : ℕ) → (sup trap : Bool) → Answer
+translated = drivesBlock kind.Translated
+
+-- "address and data not driven, SUP off, trap line as the request stood; unit unchanged"
+abbrev pub refusal : (number : ℕ) → Unit → Cycle → Row
+refusal number u c = row u c (drivesNothing (kind.Refused number) false (u .registers .notes .request)) u
