@@ -29,7 +29,9 @@ pub fn event_of(dma: bool, violation: bool, warning: bool, rights: u8, long: boo
 pub fn bus_status(c: Cycle) -> u8
     ensures { λ r. ⌜ r ≡ busStatus c ⌝ }
 {
-    c.status % 16 | flags::flag_if(c.read, Unit::READ) | flags::flag_if(c.normal, Unit::NORMAL)
+    c.status % Unit::STATUSES
+        | flags::flag_if(c.read, Unit::READ)
+        | flags::flag_if(c.normal, Unit::NORMAL)
 }
 
 // No primary flag stands: all is stored, and the unit asks.

@@ -48,7 +48,7 @@ pub struct Registers {
 
 // A unit record.
 pub struct Unit {
-    pub table: [Descriptor; 64],
+    pub table: [Descriptor; Unit::DESCRIPTORS],
     pub registers: Registers,
 }
 
@@ -168,18 +168,24 @@ pub struct Stepped {
 }
 
 impl Unit {
-    // ---- sizes: how many descriptors, and how many bytes one has for the commands
-    pub const SEGMENTS: u8 = 64;
+    // ---- sizes: how many descriptors, as a length and as a number of segments, and how many bytes one has for the commands
+    pub const DESCRIPTORS: usize = 64;
+
+    pub const SEGMENTS: u8 = Unit::DESCRIPTORS as u8;
 
     pub const BYTES: u8 = 4;
+    // How many status codes and segment numbers a cycle can have.
+    pub const STATUSES: u8 = 16;
+
+    pub const NUMBERS: u8 = 128;
     // The largest SAR, VSN, ISN and BCSR, the largest DSCR, the largest status and segment of a cycle.
-    pub const SIX_BITS: u8 = 63;
+    pub const SIX_BITS: u8 = Unit::SEGMENTS - 1;
 
-    pub const TWO_BITS: u8 = 3;
+    pub const TWO_BITS: u8 = Unit::BYTES - 1;
 
-    pub const LAST_STATUS: u8 = 15;
+    pub const LAST_STATUS: u8 = Unit::STATUSES - 1;
 
-    pub const LAST_SEGMENT: u8 = 127;
+    pub const LAST_SEGMENT: u8 = Unit::NUMBERS - 1;
     // ---- attributes
     pub const RD: u8 = 1;
 
@@ -302,7 +308,7 @@ impl Unit {
             limit: 0,
             attributes: 0,
         };
-        let table = [none; 64];
+        let table = [none; Unit::DESCRIPTORS];
         let registers = Registers {
             control: Control {
                 mr: 0,

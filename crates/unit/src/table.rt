@@ -19,11 +19,11 @@ fn mark(d: Descriptor, mask: u8) -> Descriptor
 }
 
 // Flags set in every descriptor.
-pub fn mark_all(t: [Descriptor; 64], mask: u8) -> [Descriptor; 64]
+pub fn mark_all(t: [Descriptor; Unit::DESCRIPTORS], mask: u8) -> [Descriptor; Unit::DESCRIPTORS]
     ensures { λ r. ⌜ r ≡ map (marked mask) t ⌝ }
 {
     let mut out = t;
-    for i in 0..64usize {
+    for i in 0..Unit::DESCRIPTORS {
         let d = out[i];
         out[i] = mark(d, mask);
     }
@@ -31,7 +31,11 @@ pub fn mark_all(t: [Descriptor; 64], mask: u8) -> [Descriptor; 64]
 }
 
 // The table after a change at a place, modulo 64.
-pub fn changed(h: Change, place: u8, t: [Descriptor; 64]) -> [Descriptor; 64]
+pub fn changed(
+    h: Change,
+    place: u8,
+    t: [Descriptor; Unit::DESCRIPTORS],
+) -> [Descriptor; Unit::DESCRIPTORS]
     ensures { λ r. ⌜ r ≡ changed h (place % 64) t ⌝ }
 {
     let i = (place % Unit::SEGMENTS) as usize;
