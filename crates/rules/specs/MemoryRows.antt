@@ -94,6 +94,16 @@ abbrev pub warns : (normal : Bool) → (status vtr : ℕ) → Notes → (trap : 
 warns m status vtr n trap left k =
     row (unitIn vtr n 0x20) (writeAt m status 0x40) (translated 0x2340 false trap) (unitIn left k 0xE0)
 
+-- "No primary flag in VTR: its violation flags, or PWW, are added; VSN (segment modulo 64), VOFF and BCSR are stored; own is set; request and
+-- await are set": own or not. (P6 and P11 have more.)
+abbrev pub firstEntries : List Row
+firstEntries =
+    row (unitIn 0 noNote 0) (readAt 0x41) (translated 0x2341 true true)
+    (unitOf 0xC0 0 0 (faults 0x04 5 0x41 0x38) 0x13 0x71 everyNote 5 (segment 0x2300 0x40 0)) ∷
+    row (unitIn 0 warned 0) (readAt 0x41) (translated 0x2341 true true)
+    (unitOf 0xC0 0 0 (faults 0x04 5 0x41 0x38) 0x13 0x71 everyNote 5 (segment 0x2300 0x40 0)) ∷
+    []
+
 -- "A primary flag, and own set: flags are added, nothing else; addresses stay." "Every CPU violation also sets hold."
 abbrev pub sameInstruction : List Row
 sameInstruction =
@@ -105,12 +115,13 @@ sameInstruction =
     row (unitIn 0x01 everyNote 0x20) (writeAt true 0x8 0x40) (translated 0x2340 true true) (unitIn 0x21 everyNote 0x20) ∷
     []
 
--- "A primary flag, own clear, violation: FATL is set; request and await only if FATL was clear."
+-- "A primary flag, own clear, violation: FATL is set; request and await only if FATL was clear.": at the system stack too
 abbrev pub fatal : List Row
 fatal =
     violates 0x01 noNote true 0x81 (notes true true false true) ∷
     violates 0x61 requested true 0xE1 (notes true true false true) ∷
     violates 0x81 noNote false 0x81 (notes false false false true) ∷
+    row (unitIn 0x01 noNote 0) (writeAt false 0x9 0x41) (translated 0x2341 true true) (unitIn 0x81 (notes true true false true) 0) ∷
     []
 
 -- "A primary flag, own clear, warning in system mode at status %9: if SWW is clear it is set, with request and await only while FATL is clear.
@@ -137,6 +148,8 @@ noWarnings =
     row (unitIn 0x04 everyNote 0x21) (writeAt true 0x8 0x40) (translated 0x2340 true true) (unitIn 0x05 everyNote 0x21) ∷
     []
 
+abbrev pub recordingRows : List Row
+recordingRows = firstEntries ++ (sameInstruction ++ (fatal ++ (laterWarnings ++ noWarnings)))
+
 abbrev pub memoryRows : List Row
-memoryRows =
-    abortedFetches ++ (fetches ++ (noFetches ++ (suppresses ++ (sameInstruction ++ (fatal ++ (laterWarnings ++ noWarnings))))))
+memoryRows = abortedFetches ++ (fetches ++ (noFetches ++ (suppresses ++ recordingRows)))
