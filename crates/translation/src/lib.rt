@@ -33,15 +33,16 @@ pub fn way_of(mr: u8, c: Cycle) -> Way
 }
 
 // The physical block number: base + offset byte, modulo 65,536. It is worked out in the order in which a byte-wide datapath adds: the low
-// byte first, in nine bits, then its carry into the high byte. The carry out of the high byte is lost, and that is the modulo.
+// byte first, in nine bits, then its carry into the high byte. The high sum stands in its place, A23 to A16, so that it is a wrapping add on
+// u16: what is lost is the carry out of the high byte, and that is the modulo.
 pub fn block_of(base: u16, offset: u8) -> u16
     ensures { λ b. ⌜ b ≡ blockOf base offset ⌝ }
 {
     let nine_bits = base % 256 + offset as u16;
     let low_sum = nine_bits % 256;
     let carry = nine_bits / 256;
-    let high_sum = std::num::wrapping_add_u8((base / 256) as u8, carry as u8);
-    high_sum as u16 * 256 + low_sum
+    let high_sum = std::num::wrapping_add_u16(base / 256 * 256, carry * 256);
+    high_sum + low_sum
 }
 
 // The address lines.
