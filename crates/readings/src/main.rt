@@ -15,13 +15,8 @@ use rules::Answer;
 use rules::Unit;
 use trace::count;
 
-// The most bytes that a record's line can have.
-const LINE: usize = 25;
-
-// The bytes of the longest trace's answers, and of their lines.
-const ANSWERS: usize = pack::BYTES * header::MOST;
-
-const LINES: usize = LINE * header::MOST;
+// The bytes of the lines of the longest trace.
+const LINES: usize = lines::LINE * header::MOST;
 
 // A record's number past every count.
 const PAST: usize = 20000;
@@ -132,8 +127,8 @@ fn agreeing(ours: &[u8], theirs: &[u8], records: usize) -> usize {
 }
 
 // Room for the answers of the longest trace.
-fn answers_room() -> [u8; ANSWERS] {
-    [0; ANSWERS]
+fn answers_room() -> [u8; run::ROOM] {
+    [0; run::ROOM]
 }
 
 // A trace: its answers through the reader, and those of its run. Where not all agree, record `same` is the first whose answer is not the run's.
