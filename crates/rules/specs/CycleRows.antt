@@ -5,9 +5,10 @@ use mathlib.Core.List.{List, [], _∷_, _++_}
 use Prim.Native.Nat.{ℕ}
 use lib.Dec.{eqb}
 use Rattle.rules.specs.Kinds.{letterOf}
-use Rattle.rules.specs.Seen.{Row, row, segment, faults, notes, noNote, everyNote, unitOf, unitWith, cycle, command, resetAt}
+use Rattle.rules.specs.Seen.{Row, row, segment, faults, notes, noNote, everyNote, unitOf, unitWith, cycle, selected, resetAt}
 use Rattle.rules.specs.Seen.{acknowledge, drivesByte, drivesNothing, translated, refusal}
 use Rattle.rules.specs.declared.Cycle.{Cycle}
+use Rattle.rules.specs.declared.Notes.{Notes}
 use Rattle.rules.specs.declared.Unit.{Unit}
 use Rattle.rules.specs.declared.Kind.the-variants as kind
 
@@ -44,17 +45,7 @@ bounds =
 
 -- a selected command with a code not listed, of a segment
 abbrev pub unlistedAt : (number : ℕ) → Cycle
-unlistedAt number = record {
-  status = 3;
-  read = true;
-  normal = false;
-  dma = false;
-  select = true;
-  segment = number;
-  offset = 0xFF;
-  byte = 0;
-  reset = false;
-}
+unlistedAt number = selected false 3 number 0xFF
 
 -- "the earliest in the order 2, 1, 3, 4 [..] wins. [..] A reset cycle can meet only 2 and 1."
 abbrev pub order : List Row
@@ -71,17 +62,7 @@ order =
 
 -- a selected read of a status, by a unit that translates: as a command its code is %00, as a memory cycle it stands at block 0
 abbrev pub asks : (dma : Bool) → (status : ℕ) → Cycle
-asks dma status = record {
-  status = status;
-  read = true;
-  normal = true;
-  dma = dma;
-  select = true;
-  segment = 0;
-  offset = 0;
-  byte = 0;
-  reset = false;
-}
+asks dma status = selected dma status 0 0
 
 abbrev pub ignores : Cycle → Row
 ignores c = row (unitWith 0xC0 0 (segment 0 0 0)) c (drivesNothing kind.Ignored false false) (unitWith 0xC0 0 (segment 0 0 0))
@@ -120,23 +101,19 @@ statuses =
 
 -- Reset and acknowledge, of a unit in which every register has a value of its own
 
-abbrev pub busy : (mr dscr vtr : ℕ) → (request awaits own hold : Bool) → Unit
-busy mr dscr vtr request awaits own hold =
-    unitOf mr 0x15 dscr (faults vtr 0x2A 0x9C 0x38) 0x13 0x71 (notes request awaits own hold) 5 (segment 0x1234 0x56 0x68)
+abbrev pub busy : (mr dscr vtr : ℕ) → Notes → Unit
+busy mr dscr vtr n = unitOf mr 0x15 dscr (faults vtr 0x2A 0x9C 0x38) 0x13 0x71 n 5 (segment 0x1234 0x56 0x68)
 
 -- "1. Reset line on: VTR, DSCR and all notes cleared; MR becomes %80 if select is on, else 0. The rest stays."
 abbrev pub restarts : List Row
 restarts =
-    row (busy 0x5A 1 0xE5 true true true true) (resetAt 0 false) (drivesNothing kind.Reset false false)
-    (busy 0 0 0 false false false false) ∷
-    row (busy 0x5A 1 0xE5 true true true true) (resetAt 3 true) (drivesNothing kind.Reset false false)
-    (busy 0x80 0 0 false false false false) ∷
+    row (busy 0x5A 1 0xE5 everyNote) (resetAt 0 false) (drivesNothing kind.Reset false false) (busy 0 0 0 noNote) ∷
+    row (busy 0x5A 1 0xE5 everyNote) (resetAt 3 true) (drivesNothing kind.Reset false false) (busy 0x80 0 0 noNote) ∷
     []
 
 -- an acknowledge by a unit with MR while the request stands
 abbrev pub line : (mr byte : ℕ) → Row
-line mr b =
-    row (busy mr 1 0xE5 true true true true) acknowledge (drivesByte kind.Acknowledge b false) (busy mr 1 0xE5 false false false false)
+line mr b = row (busy mr 1 0xE5 everyNote) acknowledge (drivesByte kind.Acknowledge b false) (busy mr 1 0xE5 noNote)
 
 -- "If MSEN is set, the unit drives line 8 + ID: high if request stands, else low. The data byte is 2^ID or 0. Then all four notes are
 -- cleared, with MSEN set or not."
@@ -150,9 +127,8 @@ acknowledges =
     line 0x85 0x20 ∷
     line 0x86 0x40 ∷
     line 0xFF 0x80 ∷
-    row (busy 0x82 1 0xE5 false true true true) acknowledge (drivesByte kind.Acknowledge 0 false) (busy 0x82 1 0xE5 false false false false) ∷
-    row (busy 0x7A 1 0xE5 true true true true) acknowledge (drivesNothing kind.Acknowledge false false)
-    (busy 0x7A 1 0xE5 false false false false) ∷
+    row (busy 0x82 1 0xE5 (notes false true true true)) acknowledge (drivesByte kind.Acknowledge 0 false) (busy 0x82 1 0xE5 noNote) ∷
+    row (busy 0x7A 1 0xE5 everyNote) acknowledge (drivesNothing kind.Acknowledge false false) (busy 0x7A 1 0xE5 noNote) ∷
     []
 
 abbrev pub cycleRows : List Row

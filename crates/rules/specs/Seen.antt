@@ -170,6 +170,20 @@ command read code b = record {
   reset = false;
 }
 
+-- a selected read of the CPU or of DMA
+abbrev pub selected : (dma : Bool) → (status number offset : ℕ) → Cycle
+selected dma status number offset = record {
+  status = status;
+  read = true;
+  normal = true;
+  dma = dma;
+  select = true;
+  segment = number;
+  offset = offset;
+  byte = 0;
+  reset = false;
+}
+
 -- the reset line on, with a status and select
 abbrev pub resetAt : (status : ℕ) → (select : Bool) → Cycle
 resetAt status select = record {
