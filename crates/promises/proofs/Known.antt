@@ -59,7 +59,8 @@ unfolding computed
 distantarm-cycle-strange κs p q g h x e l = (l .says, l .leaves, l .shows)
 
 -- the least room, and a byte less of either
-pub distantarm-cycle-room : (κs : Lfts 2) (p q : ℕ × ℕ) (g h x y z : ℕ) (d e f : AtExit (endedOf 2 distantarm-cycle-k.ps distantarm-cycle-k.r) κs)
+pub distantarm-cycle-room : (κs : Lfts 2) (p q : ℕ × ℕ) (g h x y z : ℕ)
+    (d e f : AtExit (endedOf 2 distantarm-cycle-k.ps distantarm-cycle-k.r) κs)
     → distantarm-cycle.Learnt κs (lent p g (replicate 266 0), (lent q h (replicate 6 9), dataRead)) x d
     → distantarm-cycle.Learnt κs (lent p g (replicate 265 0), (lent q h (replicate 6 9), dataRead)) y e
     → distantarm-cycle.Learnt κs (lent p g (replicate 266 0), (lent q h (replicate 5 9), dataRead)) z f
@@ -96,7 +97,8 @@ text =
     ∷ 56 ∷ 32 ∷ 65 ∷ 32 ∷ 45 ∷ 45 ∷ 45 ∷ 45 ∷ 32 ∷ 48 ∷ 32 ∷ 48 ∷ 32 ∷ 48 ∷ 49 ∷ 10 ∷ []
 
 -- in a buffer with room, and in one without
-pub distantarm-list-known : (κs : Lfts 2) (p q : ℕ × ℕ) (g h x : ℕ) (l : List ℕ) (e : AtExit (endedOf 2 distantarm-list-k.ps distantarm-list-k.r) κs)
+pub distantarm-list-known : (κs : Lfts 2) (p q : ℕ × ℕ) (g h x : ℕ) (l : List ℕ)
+    (e : AtExit (endedOf 2 distantarm-list-k.ps distantarm-list-k.r) κs)
     → distantarm-list.Learnt κs (lent p g sample, (lent q h l, tt)) x e
     → (ltb (length l) 400012 ≡ false → (x ≡ 152) × (now (e .1 .0) ≡ sets l 0 text))
     × (ltb (length l) 400012 ≡ true → (x ≡ 0) × (now (e .1 .0) ≡ l))
