@@ -1,1 +1,1 @@
-// No code: proofs/ shows that no second answer fits the promise of a public call.
+// No code: proofs/ has the laws of the public calls' contracts. No second answer fits, nothing is asked, and the answer is the right one.
