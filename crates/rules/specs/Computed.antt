@@ -1,4 +1,5 @@
--- Every rule that stays shut, under one name: `unfolding computed` opens them all, for a test that the checker computes.
+-- Every rule that stays shut, under one name: `unfolding computed` opens them all, for a test that the checker computes. A rule that is
+-- added stands in one of these lists, and in no other.
 use Prim.Native.Nat.{ℕ}
 use Rattle.rules.specs.Refusals.{damaged, outOfRange, plain, refused}
 use Rattle.rules.specs.Status.{resetBy, acknowledgeByte, quieted, acknowledged, ignored, purposeOf, byStatus}
@@ -13,6 +14,26 @@ use Rattle.rules.specs.Commands.{given, controlled, programmed, entry, c
 use Rattle.rules.specs.Step.{decided, placeOf, changed, decision, after}
 use Rattle.rules.specs.Runs.{answers, final, units}
 
+unfoldable pub refusing : ℕ
+unfolding damaged outOfRange plain refused resetBy acknowledgeByte quieted acknowledged ignored purposeOf byStatus
+refusing = 0
+
+unfoldable pub checking : ℕ
+unfolding wayOf blockOf linesOf rightsOf outOfLength warns eventOf busStatus firstEntry added raised recorded
+checking = 0
+
+unfoldable pub accessing : ℕ
+unfolding seen resumed aborted begun untranslated touched touchedBy noted checked accessed memory
+accessing = 0
+
+unfoldable pub commanding : ℕ
+unfolding commandOf given controlled programmed entry cleared restarted acted executed commanded
+commanding = 0
+
+unfoldable pub moving : ℕ
+unfolding byteOf replaced indexOf nextCounter nextSegment moved writtenBy
+moving = 0
+
 unfoldable pub computed : ℕ
-unfolding damaged outOfRange plain refused resetBy acknowledgeByte quieted acknowledged ignored purposeOf byStatus wayOf blockOf linesOf rightsOf outOfLength warns eventOf busStatus firstEntry added raised recorded seen resumed aborted begun untranslated touched touchedBy noted checked accessed memory commandOf byteOf replaced indexOf nextCounter nextSegment moved writtenBy given controlled programmed entry cleared restarted acted executed commanded decided placeOf changed decision after answers final units
+unfolding refusing checking accessing commanding moving decided placeOf changed decision after answers final units
 computed = 0

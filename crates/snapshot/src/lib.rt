@@ -20,12 +20,10 @@ pub const NOTES: usize = 9;
 
 pub const TABLE: usize = 10;
 
-// The bytes of a descriptor, how many descriptors there are, and the bytes of a unit.
+// The bytes of a descriptor, and those of a unit.
 pub const DESCRIPTOR: usize = 4;
 
-pub const SEGMENTS: usize = Unit::SEGMENTS as usize;
-
-pub const BYTES: usize = TABLE + DESCRIPTOR * SEGMENTS;
+pub const BYTES: usize = TABLE + DESCRIPTOR * Unit::DESCRIPTORS;
 
 // The bits of the notes, and the largest byte that is made of them.
 pub const REQUEST: u8 = 1;
@@ -58,7 +56,7 @@ pub fn descriptor_in(bytes: &[u8], at: usize) -> Descriptor
 }
 
 // The table of a unit's bytes.
-fn table_in(bytes: &[u8]) -> [Descriptor; SEGMENTS]
+fn table_in(bytes: &[u8]) -> [Descriptor; Unit::DESCRIPTORS]
     requires { ⌜ unitSize ≤ length (now bytes) ⌝ }
     ensures { λ t. ⌜ t ≡ tableIn (now (bytes .entry)) segments ⌝ }
 {
@@ -67,8 +65,8 @@ fn table_in(bytes: &[u8]) -> [Descriptor; SEGMENTS]
         limit: 0,
         attributes: 0,
     };
-    let mut table = [none; SEGMENTS];
-    for i in 0..SEGMENTS {
+    let mut table = [none; Unit::DESCRIPTORS];
+    for i in 0..Unit::DESCRIPTORS {
         table[i] = descriptor_in(bytes, TABLE + DESCRIPTOR * i);
     }
     table
@@ -134,11 +132,11 @@ pub fn put_descriptor(out: &mut [u8], at: usize, d: Descriptor)
 }
 
 // A table's bytes stored at their place.
-fn put_table(out: &mut [u8], table: [Descriptor; SEGMENTS])
+fn put_table(out: &mut [u8], table: [Descriptor; Unit::DESCRIPTORS])
     requires { ⌜ unitSize ≤ length (now out) ⌝ }
     ensures { λ _. ⌜ now (out .exit) ≡ sets (now (out .entry)) tableAt (tableBytes table) ⌝ }
 {
-    for i in 0..SEGMENTS {
+    for i in 0..Unit::DESCRIPTORS {
         let d = table[i];
         put_descriptor(out, TABLE + DESCRIPTOR * i, d);
     }

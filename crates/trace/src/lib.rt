@@ -9,15 +9,10 @@ use header::stated;
 use rules::Cycle;
 use rules::Unit;
 
-// A record's first byte: how many statuses there are in its low bits, and the bits above those of BCSR.
-pub const STATUSES: u8 = Unit::LAST_STATUS + 1;
-
+// The bits of a record's first byte above those of BCSR, and the reset line in its second.
 pub const DMA: u8 = 64;
 
 pub const SELECT: u8 = 128;
-
-// Its second: how many segment numbers there are, and the reset line above them.
-pub const NUMBERS: u8 = Unit::LAST_SEGMENT + 1;
 
 pub const RESET: u8 = 128;
 
@@ -63,12 +58,12 @@ pub fn decode(part: &[u8]) -> Cycle
     let b2 = byte_at(part, 2);
     let b3 = byte_at(part, 3);
     Cycle {
-        status: b0 % STATUSES,
+        status: b0 % Unit::STATUSES,
         read: b0 & Unit::READ != 0,
         normal: b0 & Unit::NORMAL != 0,
         dma: b0 & DMA != 0,
         select: b0 & SELECT != 0,
-        segment: b1 % NUMBERS,
+        segment: b1 % Unit::NUMBERS,
         offset: b2,
         byte: b3,
         reset: b1 & RESET != 0,
