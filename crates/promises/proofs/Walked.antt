@@ -51,7 +51,7 @@ module _ {M : Type 1} (𝓤 : URA M) (H : Heap 𝓤) (A : Atoms 𝓤) (mem : Mem
   next-only κs a b g h x y e f s =
       both 𝓤 (λ p q. (
         answers-only (now (now (b .0) .trace)) (now (b .0) .next) x y
-        (subst (λ (r : Reader). Answers (now (r .trace)) (r .next) x) s (p .0)) (q .0),
+            (subst (λ (r : Reader). Answers (now (r .trace)) (r .next) x) s (p .0)) (q .0),
         cc,
       ))
 
