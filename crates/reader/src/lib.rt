@@ -70,7 +70,7 @@ pub fn shown<'a>(r: Reader<'a>) -> &'a [u8]
 // A reader of the trace, put to number n and asked once: what it gives, and its number after, at which it can be taken up again. Its
 // parameters are plain, so whoever calls it needs no proof by hand.
 pub fn read_at(trace: &[u8], n: usize) -> Found
-    ensures { λ f. ⌜ Finds (now (trace .entry)) n f ⌝ }
+    ensures { λ g. ⌜ Finds (now (trace .entry)) n g ⌝ }
 {
     let mut r = start(trace);
     r.next = n;
