@@ -1,20 +1,22 @@
--- What a cycle answers: one walk over every decision shows the kind and the address lines.
+-- What a cycle answers: one walk over every decision shows the kind, the address lines and SUP.
 -- Assumes nothing.
 use mathlib.Core.Path.{_≡_, refl, sym, _∙_, ap}
 use mathlib.Core.Bool.{Bool, true, false, cond, not, _&&_, _||_, Bool·beq, and-false, false≢true}
 use mathlib.Core.Option.{Option, none, some}
 use Prim.Native.Nat.{ℕ, _+_, _*_, _%_}
-use lib.Dec.{eqb, leb}
+use lib.Dec.{eqb, leb, ltb}
 use lib.ListN.{getD}
 use borrow.Author.Tests.{eqb-true, not-true}
 use Rattle.rules.proofs.Blind.{isTranslated, own-segment}
-use Rattle.rules.specs.Bus.{cpu, write}
-use Rattle.rules.specs.Flags.{has, lacks}
+use Rattle.rules.specs.Bus.{cpu, write, fetch, program}
+use Rattle.rules.specs.Checks.{rightsOf, beyond, outOfLength, violates}
+use Rattle.rules.specs.Flags.{has, lacks, with, flagIf}
+use Rattle.rules.specs.Masks.{RD, SYS, CPUI, EXC, DMAI, DIRW, RDV, SYSV, CPUIV, EXCV, DMAIV}
 use Rattle.rules.specs.Masks.{NMS, MST, URS, TRNS, MSEN, UPPER}
 use Rattle.rules.specs.PowerOn.{none as blank}
 use Rattle.rules.specs.Refusals.{damaged, outOfRange, off, plain, refused}
 use Rattle.rules.specs.Status.{resetBy, acknowledged, ignored, purposeOf, byPurpose, byStatus}
-use Rattle.rules.specs.Memory.{seen, checked, accessed, aborted, untranslated, memoryBy, aborts, memory}
+use Rattle.rules.specs.Memory.{seen, begun, checked, accessed, aborted, untranslated, memoryBy, aborts, memory}
 use Rattle.rules.specs.Translation.{wayBy, wayOf, blockOf, linesOf}
 use Rattle.rules.specs.Codes.{commandOf}
 use Rattle.rules.specs.Commands.{given, programmed, entry, acted, executed, commanded}
@@ -33,9 +35,11 @@ use Rattle.rules.specs.declared.Registers.{Registers}
 use Rattle.rules.specs.declared.Unit.{Unit}
 use Rattle.rules.specs.declared.Way.{Way}
 use Rattle.runs.specs.Answers.{awaited, kindBy, KindExactly, isAborted, AbortedExactly, segmentOf, driven, AddressExactly}
+use Rattle.runs.specs.Answers.{breaks, SupExactly}
 use Rattle.runs.specs.Cycles.{selectedCommand, acknowledge, memoryCycle, fetches, passingConditions, translationConditions}
 use Rattle.runs.specs.Cycles.{readOnly, setOrClear, listed}
 use Rattle.runs.specs.Refusal.{earliest, refusalOf, admitted}
+use Rattle.runs.proofs.Bits.{or-none}
 use Rattle.runs.proofs.Codes.{isShow, isAct, isListed, show-codes, act-codes, listed-codes}
 use Rattle.runs.proofs.Looks.{conditions-way}
 use Rattle.runs.proofs.Purposes.{isCommand, isAcknowledge, isMemory, command-status, acknowledge-status, memory-status}
@@ -86,52 +90,59 @@ lines-way mr base c =
 
 -- One walk
 
-record Says (x : Decision) (k : Kind) (l : Lines) : Type 0 where
+record Says (x : Decision) (k : Kind) (l : Lines) (s : Bool) : Type 0 where
   kind : x .answer .kind ≡ k
   lines : x .answer .lines ≡ l
+  sup : x .answer .sup ≡ s
 
 module _ (r : Registers) (d : Descriptor) (c : Cycle) where
   memory-says : (b : Bool) (w : Way) (l : Lines)
       → Says (memoryBy b w r d c l) (kindBy none false false false true b (isTranslated w) (isPassed w)) l
-  unfolding aborted seen untranslated accessed checked
-  memory-says true w l = record { kind = refl; lines = refl }
-  memory-says false way.Translated l = record { kind = refl; lines = refl }
-  memory-says false way.Passed l = record { kind = refl; lines = refl }
-  memory-says false way.Silent l = record { kind = refl; lines = refl }
+      (not b && (isTranslated w && violates (rightsOf (d .attributes) c) (outOfLength d c) || cpu c && (r .notes .hold && not (fetch c))))
+  unfolding aborted seen untranslated begun accessed checked
+  memory-says true w l = record { kind = refl; lines = refl; sup = refl }
+  memory-says false way.Translated l = record { kind = refl; lines = refl; sup = refl }
+  memory-says false way.Passed l = record { kind = refl; lines = refl; sup = refl }
+  memory-says false way.Silent l = record { kind = refl; lines = refl; sup = refl }
 
-  acted-says : (a : Action) → Says (acted r a) kind.Command off
+  acted-says : (a : Action) → Says (acted r a) kind.Command off false
   unfolding acted plain
-  acted-says SoftwareReset = record { kind = refl; lines = refl }
-  acted-says ClearVtr = record { kind = refl; lines = refl }
-  acted-says ClearSww = record { kind = refl; lines = refl }
-  acted-says ClearFatl = record { kind = refl; lines = refl }
-  acted-says SetCpui = record { kind = refl; lines = refl }
-  acted-says SetDmai = record { kind = refl; lines = refl }
+  acted-says SoftwareReset = record { kind = refl; lines = refl; sup = refl }
+  acted-says ClearVtr = record { kind = refl; lines = refl; sup = refl }
+  acted-says ClearSww = record { kind = refl; lines = refl; sup = refl }
+  acted-says ClearFatl = record { kind = refl; lines = refl; sup = refl }
+  acted-says SetCpui = record { kind = refl; lines = refl; sup = refl }
+  acted-says SetDmai = record { kind = refl; lines = refl; sup = refl }
 
   executed-says : (m : Command) (read b t p : Bool)
       → Says (executed m read r d c)
-      (kindBy (earliest false false (not (isListed m)) (not read && isShow m || read && isAct m)) false false true false b t p) off
+      (kindBy (earliest false false (not (isListed m)) (not read && isShow m || read && isAct m)) false false true false b t p) off false
   unfolding executed programmed given entry refused plain
-  executed-says Mr true b t p = record { kind = refl; lines = refl }
-  executed-says Mr false b t p = record { kind = refl; lines = refl }
-  executed-says Sar true b t p = record { kind = refl; lines = refl }
-  executed-says Sar false b t p = record { kind = refl; lines = refl }
-  executed-says Dscr true b t p = record { kind = refl; lines = refl }
-  executed-says Dscr false b t p = record { kind = refl; lines = refl }
-  executed-says (Show g) true b t p = record { kind = refl; lines = refl }
-  executed-says (Show g) false b t p = record { kind = refl; lines = refl }
-  executed-says (Entry x) true b t p = record { kind = refl; lines = refl }
-  executed-says (Entry x) false b t p = record { kind = refl; lines = refl }
-  executed-says (Act a) true b t p = record { kind = refl; lines = refl }
+  executed-says Mr true b t p = record { kind = refl; lines = refl; sup = refl }
+  executed-says Mr false b t p = record { kind = refl; lines = refl; sup = refl }
+  executed-says Sar true b t p = record { kind = refl; lines = refl; sup = refl }
+  executed-says Sar false b t p = record { kind = refl; lines = refl; sup = refl }
+  executed-says Dscr true b t p = record { kind = refl; lines = refl; sup = refl }
+  executed-says Dscr false b t p = record { kind = refl; lines = refl; sup = refl }
+  executed-says (Show g) true b t p = record { kind = refl; lines = refl; sup = refl }
+  executed-says (Show g) false b t p = record { kind = refl; lines = refl; sup = refl }
+  executed-says (Entry x) true b t p = record { kind = refl; lines = refl; sup = refl }
+  executed-says (Entry x) false b t p = record { kind = refl; lines = refl; sup = refl }
+  executed-says (Act a) true b t p = record { kind = refl; lines = refl; sup = refl }
   executed-says (Act a) false b t p = acted-says a
-  executed-says Unlisted read b t p = record { kind = refl; lines = refl }
+  executed-says Unlisted read b t p = record { kind = refl; lines = refl; sup = refl }
 
-  -- the way of a memory cycle, and its lines
+  -- the way of a memory cycle, its lines and its SUP
   wayHere : Way
   wayHere = wayOf (r .control .mr) c
 
   linesHere : Lines
   linesHere = linesOf wayHere (d .base) c
+
+  supHere : Bool
+  supHere =
+      not (aborts r c)
+      && (isTranslated wayHere && violates (rightsOf (d .attributes) c) (outOfLength d c) || cpu c && (r .notes .hold && not (fetch c)))
 
   purpose-says : (p : Purpose) (x y : Bool)
       → Says (byPurpose p x y r d c)
@@ -139,14 +150,14 @@ module _ (r : Registers) (d : Descriptor) (c : Cycle) where
       (earliest false false (isCommand p && y && not (isListed (commandOf (c .offset))))
       (isCommand p && y && (write c && isShow (commandOf (c .offset)) || c .read && isAct (commandOf (c .offset)))))
       false (isAcknowledge p && x) (isCommand p && y) (isMemory p) (aborts r c) (isTranslated wayHere) (isPassed wayHere))
-      (cond (isMemory p) linesHere off)
-  unfolding wayHere linesHere acknowledged ignored plain commanded memory
-  purpose-says purpose.Acknowledge true y = record { kind = refl; lines = refl }
-  purpose-says purpose.Acknowledge false y = record { kind = refl; lines = refl }
+      (cond (isMemory p) linesHere off) (isMemory p && supHere)
+  unfolding wayHere linesHere supHere acknowledged ignored plain commanded memory
+  purpose-says purpose.Acknowledge true y = record { kind = refl; lines = refl; sup = refl }
+  purpose-says purpose.Acknowledge false y = record { kind = refl; lines = refl; sup = refl }
   purpose-says purpose.Command x true = executed-says (commandOf (c .offset)) (c .read) _ _ _
-  purpose-says purpose.Command x false = record { kind = refl; lines = refl }
+  purpose-says purpose.Command x false = record { kind = refl; lines = refl; sup = refl }
   purpose-says purpose.Memory x y = memory-says (aborts r c) wayHere linesHere
-  purpose-says purpose.Other x y = record { kind = refl; lines = refl }
+  purpose-says purpose.Other x y = record { kind = refl; lines = refl; sup = refl }
 
   decided-says : (two one reset : Bool)
       → Says (decidedBy two one reset r d c)
@@ -157,10 +168,11 @@ module _ (r : Registers) (d : Descriptor) (c : Cycle) where
       (not reset && (leb 8 (c .status) && leb (c .status) 13))
       (not reset && (cpu c && c .read && eqb (c .status) 13) && r .notes .awaits) (isTranslated wayHere) (isPassed wayHere))
       (cond (not two && not one && (not reset && (leb 8 (c .status) && leb (c .status) 13))) linesHere off)
+      (not two && not one && (not reset && (leb 8 (c .status) && leb (c .status) 13)) && supHere)
   unfolding refused resetBy plain byStatus
-  decided-says true one reset = record { kind = refl; lines = refl }
-  decided-says false true reset = record { kind = refl; lines = refl }
-  decided-says false false true = record { kind = refl; lines = refl }
+  decided-says true one reset = record { kind = refl; lines = refl; sup = refl }
+  decided-says false true reset = record { kind = refl; lines = refl; sup = refl }
+  decided-says false false true = record { kind = refl; lines = refl; sup = refl }
   decided-says false false false =
       rw (
         ← command-status (c .status),
@@ -177,6 +189,7 @@ says : (u : Unit) (c : Cycle)
     (kindBy (refusalOf u c) (c .reset) (acknowledge c) (selectedCommand c) (memoryCycle c) (awaited u c)
     (isTranslated (wayOf (u .registers .control .mr) c)) (isPassed (wayOf (u .registers .control .mr) c)))
     (cond (admitted u c && memoryCycle c) (linesOf (wayOf (u .registers .control .mr) c) (getD (u .table) (place u c) blank .base) c) off)
+    (admitted u c && memoryCycle c && supHere (u .registers) (getD (u .table) (place u c) blank) c)
 unfolding decision decided wayHere linesHere
 says u c = decided-says (u .registers) (getD (u .table) (place u c) blank) c (damaged (u .registers)) (outOfRange c) (c .reset)
 
@@ -224,7 +237,7 @@ aborted-exactly u c = ap isAborted (kind-exactly u c) ∙ go (awaited u c) refl
 -- Address
 
 -- a memory cycle looks at its segment's descriptor
-memory-place : (u : Unit) (c : Cycle) → memoryCycle c ≡ true → place u c ≡ c .segment % 64
+pub memory-place : (u : Unit) (c : Cycle) → memoryCycle c ≡ true → place u c ≡ c .segment % 64
 memory-place u c e = ap (λ (n : ℕ). n % 64) (own-segment (u .registers) c (go (eqb (c .status) 3) refl))
   where
     go : (t : Bool) → eqb (c .status) 3 ≡ t → t ≡ false
@@ -250,3 +263,82 @@ address-exactly u c =
     (λ e. ap (λ (i : ℕ). linesOf (wayOf mr c) (getD (u .table) i blank .base) c) (memory-place u c (and-r (admitted u c) _ e)))
     ∙ ap (λ (l : Lines). cond m l off) (lines-way mr (segmentOf u c .base) c)
     ∙ cond-nest m (passingConditions mr || translationConditions mr c) _
+
+-- SUP
+
+-- the flags of the rights byte, one by one
+pub breaks-exactly : (d : Descriptor) (c : Cycle) → violates (rightsOf (d .attributes) c) (outOfLength d c) ≡ breaks d c
+unfolding rightsOf outOfLength
+breaks-exactly d c =
+    let a : ℕ = d .attributes in
+    let x : ℕ = flagIf (has a RD && write c) RDV in
+    let y : ℕ = with x (flagIf (has a SYS && c .normal) SYSV) in
+    let z : ℕ = with y (flagIf (has a CPUI && cpu c) CPUIV) in
+    let t : ℕ = with z (flagIf (has a EXC && not (program c)) EXCV) in
+    rw (
+      or-none t (flagIf (has a DMAI && c .dma) DMAIV),
+      or-none z (flagIf (has a EXC && not (program c)) EXCV),
+      or-none y (flagIf (has a CPUI && cpu c) CPUIV),
+      or-none x (flagIf (has a SYS && c .normal) SYSV),
+      none-if (has a RD && write c) RDV refl,
+      none-if (has a SYS && c .normal) SYSV refl,
+      none-if (has a CPUI && cpu c) CPUIV refl,
+      none-if (has a EXC && not (program c)) EXCV refl,
+      none-if (has a DMAI && c .dma) DMAIV refl,
+      length (has a DIRW),
+    )
+    (go (has a RD && write c) (has a SYS && c .normal) (has a EXC && not (program c))
+    (cond (has a DIRW) (ltb (c .offset) (d .limit)) (ltb (d .limit) (c .offset))) (has a CPUI && cpu c) (has a DMAI && c .dma))
+  where
+    none-if : (t : Bool) (m : ℕ) → eqb m 0 ≡ false → eqb (flagIf t m) 0 ≡ not t
+    none-if true m e = e
+    none-if false m e = refl
+
+    length : (t : Bool) → beyond t (d .limit) (c .offset) ≡ cond t (ltb (c .offset) (d .limit)) (ltb (d .limit) (c .offset))
+    length true = refl
+    length false = refl
+
+    go : (r s x l p m : Bool) → (not (not r && not s && not p && not x && not m) || l) ≡ (r || s || x || l || p || m)
+    go true s x l p m = refl
+    go false true x l p m = refl
+    go false false true l true m = refl
+    go false false true l false m = refl
+    go false false false true true m = refl
+    go false false false true false true = refl
+    go false false false true false false = refl
+    go false false false false true m = refl
+    go false false false false false true = refl
+    go false false false false false false = refl
+
+-- a fetch is awaited or clears hold first, so the two causes can be told apart
+two-causes : (a r m f w t v p h : Bool)
+    → (a && (not r && m) && (not (f && w) && (t && v || p && (h && not f))))
+    ≡ (a && (not r && m) && not (not r && f && w) && t && v || a && (not r && m) && p && not (not r && f) && h)
+two-causes false r m f w t v p h = refl
+two-causes true true m f w t v p h = refl
+two-causes true false false f w t v p h = refl
+two-causes true false true true true t v true h = refl
+two-causes true false true true true t v false h = refl
+two-causes true false true true false t v true true = refl
+two-causes true false true true false t v true false = refl
+two-causes true false true true false t v false h = refl
+two-causes true false true false w t v true true = refl
+two-causes true false true false w t v true false = refl
+two-causes true false true false w t v false h = refl
+
+-- what is the same wherever a test holds
+pub where-true : (t x y : Bool) → (t ≡ true → x ≡ y) → (t && x) ≡ (t && y)
+where-true true x y h = h refl
+where-true false x y h = refl
+
+pub sup-exactly : SupExactly
+unfolding supHere wayHere
+sup-exactly u c =
+    let mr : ℕ = u .registers .control .mr in
+    let m : Bool = admitted u c && memoryCycle c in
+    says u c .sup
+    ∙ where-true m _ (supHere (u .registers) (segmentOf u c) c)
+    (λ e. ap (λ (i : ℕ). supHere (u .registers) (getD (u .table) i blank) c) (memory-place u c (and-r (admitted u c) _ e)))
+    ∙ rw (conditions-way mr c, breaks-exactly (segmentOf u c) c)
+    (two-causes (admitted u c) (c .reset) (leb 8 (c .status) && leb (c .status) 13) (fetch c) (u .registers .notes .awaits)
+    (translationConditions mr c) (breaks (segmentOf u c) c) (cpu c) (u .registers .notes .hold))

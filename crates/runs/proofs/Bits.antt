@@ -39,7 +39,7 @@ has-and k a b =
 primary : (v : ℕ) → lacks v PRIMARY ≡ eqb (v % 64) 0
 primary v = ap (λ (n : ℕ). eqb n 0) (and-mask v 6)
 
-or-none : (x y : ℕ) → eqb (bitOr x y) 0 ≡ (eqb x 0 && eqb y 0)
+pub or-none : (x y : ℕ) → eqb (bitOr x y) 0 ≡ (eqb x 0 && eqb y 0)
 or-none zero y = ap (λ (n : ℕ). eqb n 0) (or-zero-l y)
 or-none (suc x) y =
     rw (ne-eqb (suc x) 0 (λ e. omega arith)) (ne-eqb (bitOr (suc x) y) 0 λ e. omega (arith, or-add-and (suc x) y, and-le-r (suc x) y))

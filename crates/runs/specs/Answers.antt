@@ -1,12 +1,14 @@
--- What a cycle answers, as one equation each, of every unit and every cycle: its kind, and the address that is driven.
+-- What a cycle answers, as one equation each, of every unit and every cycle: its kind, the address that is driven, SUP.
 -- Assumes nothing.
 use mathlib.Core.Path.{_≡_}
-use mathlib.Core.Bool.{Bool, true, false, cond, _&&_, _||_}
+use mathlib.Core.Bool.{Bool, true, false, cond, not, _&&_, _||_}
 use mathlib.Core.Option.{Option, none, some}
 use Prim.Native.Nat.{ℕ, _+_, _*_, _%_}
+use lib.Dec.{eqb, ltb}
 use lib.ListN.{getD}
+use Rattle.rules.specs.Bus.{cpu, write}
 use Rattle.rules.specs.Flags.{has}
-use Rattle.rules.specs.Masks.{TRNS}
+use Rattle.rules.specs.Masks.{RD, SYS, CPUI, EXC, DMAI, DIRW, TRNS}
 use Rattle.rules.specs.PowerOn.{none as blank}
 use Rattle.rules.specs.Refusals.{off}
 use Rattle.rules.specs.Step.{stepped}
@@ -92,3 +94,29 @@ driven b = record { driven = true; block = b }
 -- CLAIM: the address lines are driven exactly there, and so; else they are off, and "An address [..] that isn't driven [..] has the value 0".
 abbrev pub AddressExactly : Type 0
 AddressExactly = (u : Unit) (c : Cycle) → stepped u c .answer .lines ≡ cond (drivesAddress u c) (driven (addressOf u c)) off
+
+-- SUP
+
+-- "RD and a write; SYS and normal mode; EXC and status neither %C nor %D"; "length: offset byte above limit with DIRW clear, below limit with
+-- DIRW set"; "CPUI for the CPU; DMAI for DMA"
+abbrev pub breaks : Descriptor → Cycle → Bool
+breaks d c =
+    has (d .attributes) RD && write c || has (d .attributes) SYS && c .normal
+    || has (d .attributes) EXC && not (eqb (c .status) 0xC || eqb (c .status) 0xD)
+    || cond (has (d .attributes) DIRW) (ltb (c .offset) (d .limit)) (ltb (d .limit) (c .offset))
+    || has (d .attributes) CPUI && cpu c || has (d .attributes) DMAI && c .dma
+
+-- a violation: an unrefused memory cycle, no aborted fetch, that is translated and breaks a rule of its segment's descriptor. "Checks, on
+-- translated cycles only, with descriptor segment modulo 64"
+abbrev pub violation : Unit → Cycle → Bool
+violation u c =
+    admitted u c && memoryCycle c && not (awaited u c) && translationConditions (u .registers .control .mr) c && breaks (segmentOf u c) c
+
+-- "any CPU memory cycle, translated or not, while hold was already set": a fetch clears hold first
+abbrev pub heldBack : Unit → Cycle → Bool
+heldBack u c = admitted u c && memoryCycle c && cpu c && not (fetches c) && u .registers .notes .hold
+
+-- CLAIM: SUP is on exactly for an unrefused memory cycle, no aborted fetch, that is translated and violates, or that is the CPU's and no
+-- fetch while hold stood. Why hold stands is in `Hold`.
+abbrev pub SupExactly : Type 0
+SupExactly = (u : Unit) (c : Cycle) → stepped u c .answer .sup ≡ (violation u c || heldBack u c)
