@@ -8,12 +8,15 @@ pub mod Looks
 pub mod Ways
 pub mod Runs
 pub mod Effects
+pub mod Computed
+pub mod Registers
 pub mod Examples
 -- what is claimed in specs/, one file for each
 pub mod Orphans
 pub mod Undamaged
 pub mod Refusal
 pub mod Answers
+pub mod Hold
 pub mod Trap
 pub mod Notes
 pub mod Wider

@@ -5,6 +5,7 @@ pub mod Orphans
 pub mod Undamaged
 pub mod Refusal
 pub mod Answers
+pub mod Hold
 pub mod Trap
 pub mod Notes
 pub mod Tighter

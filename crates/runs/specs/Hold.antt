@@ -1,0 +1,82 @@
+-- Hold: what sets it, what ends it, and how long SUP lasts after a violation.
+-- Assumes nothing.
+use mathlib.Core.Path.{_≡_}
+use mathlib.Core.Bool.{Bool, true, false, not, _&&_, _||_}
+use mathlib.Core.List.{List, [], _∷_, _++_}
+use mathlib.Core.Logic.{_↔_}
+use Rattle.rules.specs.Bus.{cpu}
+use Rattle.rules.specs.PowerOn.{powerOn}
+use Rattle.rules.specs.Rows.{cycle}
+use Rattle.rules.specs.Runs.{final}
+use Rattle.rules.specs.Step.{stepped}
+use Rattle.rules.specs.declared.Cycle.{Cycle}
+use Rattle.rules.specs.declared.Unit.{Unit}
+use Rattle.runs.specs.Answers.{violation}
+use Rattle.runs.specs.Cycles.{acknowledge, memoryCycle, fetches, softwareReset, written}
+use Rattle.runs.specs.Refusal.{admitted}
+use Rattle.runs.specs.Sequences.{_⇒_, Every, Along}
+
+-- hold stands
+abbrev pub holds : Unit → Bool
+holds u = u .registers .notes .hold
+
+-- "Every CPU violation also sets hold."
+abbrev pub cpuViolation : Unit → Cycle → Bool
+cpuViolation u c = violation u c && cpu c
+
+-- the four that end it, unrefused: "all notes cleared" (reset), "all four notes are cleared" (acknowledge), "own and hold are cleared" (fetch,
+-- aborted or not), "Software reset clears [..] the notes"
+abbrev pub endsHold : Unit → Cycle → Bool
+endsHold u c = admitted u c && (c .reset || acknowledge c || fetches c || softwareReset c)
+
+-- CLAIM: hold stands after a cycle exactly if the cycle is a CPU violation, or hold stood and the cycle is none of the four. A fetch that
+-- violates ends the old hold and sets its own.
+abbrev pub HoldExactly : Type 0
+HoldExactly = (u : Unit) (c : Cycle) → holds (stepped u c .unit) ≡ (cpuViolation u c || not (endsHold u c) && holds u)
+
+-- a CPU violation came in a run, and none of the four after it
+pub record ViolatedSince (u : Unit) (cs : List Cycle) : Type 0 where
+  pub earlier : List Cycle
+  pub cycle : Cycle
+  pub since : List Cycle
+  pub run : cs ≡ earlier ++ (cycle ∷ since)
+  pub violates : cpuViolation (final u earlier) cycle ≡ true
+  pub goesOn : Along (λ v c. endsHold v c ≡ false) (stepped (final u earlier) cycle .unit) since
+
+-- CLAIM: from power-on hold stands exactly if a CPU violation came since the last of the four. With `SupExactly`: for every row of a capture,
+-- why SUP is on.
+abbrev pub HoldByHistory : Type 0
+HoldByHistory = (cs : List Cycle) → (holds (final powerOn cs) ≡ true) ↔ ViolatedSince powerOn cs
+
+-- CLAIM: after a CPU violation every unrefused CPU memory cycle is suppressed, until the first of the four.
+abbrev pub SupLasts : Type 0
+SupLasts =
+    (u : Unit) (c : Cycle) (cs : List Cycle)
+    → cpuViolation u c ≡ true
+    -- none of the four comes unrefused; all else may, and the four where they are refused
+    → Along (λ v d. endsHold v d ≡ false) (stepped u c .unit) cs
+    → Along (λ v d. (admitted v d && memoryCycle d && cpu d) ⇒ stepped v d .answer .sup) (stepped u c .unit) cs
+
+-- a unit whose hold stands, all else as at power-on
+abbrev pub holding : Unit
+holding = record {
+  table = powerOn .table;
+  registers = record {
+    control = powerOn .registers .control;
+    faults = powerOn .registers .faults;
+    fetched = powerOn .registers .fetched;
+    notes = record { request = false; awaits = false; own = false; hold = true };
+  };
+}
+
+-- the SUP of a data read of segment 0
+abbrev pub suppresses : Unit → Bool
+suppresses u = stepped u (cycle false true false 8 0 0) .answer .sup
+
+-- CLAIM: each of the four does end it: after an acknowledge, a reset, a software reset or a fetch the next read is not suppressed. So none of
+-- them can be left out above. The read itself is suppressed where none of them came.
+abbrev pub EachEndsHold : Type 0
+EachEndsHold =
+    (suppresses holding ≡ true)
+    × Every (λ c. (endsHold holding c ≡ true) × (suppresses (stepped holding c .unit) ≡ false))
+    (written 4 0x00 0 false ∷ written 0 0x00 0 true ∷ written 3 0x10 0 false ∷ cycle false true false 13 0 0 ∷ [])
