@@ -1,16 +1,18 @@
 -- Which command a code stands for, told by its number: antt computes the codes up to the last in the table, and past it none is listed.
 -- Assumes nothing.
 use mathlib.Core.Path.{_≡_, refl, sym, _∙_, ap}
-use mathlib.Core.Bool.{Bool, true, false, Bool·beq, and-false}
+use mathlib.Core.Bool.{Bool, true, false, _||_, Bool·beq, and-false}
 use mathlib.Core.List.{List, [], _∷_}
 use Prim.Native.Nat.{ℕ, _<_, _≤_}
 use native.Mathlib.Omega.{arith}
 use lib.Dec.{eqb, leb, ltb}
 use borrow.Author.Tests.{ltb-true, ltb-false, leb-true, ne-eqb, lt-leb}
 use Rattle.rules.specs.Codes.{commandOf, codes, lookUp}
+use Rattle.rules.specs.declared.Action.{Action}
 use Rattle.rules.specs.declared.Action.the-variants.{SoftwareReset, ClearVtr, ClearSww, ClearFatl, SetCpui, SetDmai}
 use Rattle.rules.specs.declared.Command.{Command}
 use Rattle.rules.specs.declared.Command.the-variants.{Mr, Sar, Dscr, Show, Entry, Act, Unlisted}
+use Rattle.rules.specs.declared.Part.the-variants.{Base, Limit, Attributes, Whole}
 use Rattle.runs.specs.Cycles.{readOnly, onDescriptor, setsAndClears, setOrClear, listed}
 use Rattle.runs.specs.Sequences.{among, all}
 use Rattle.runs.proofs.Tests.{each, at, same, and-l, and-r}
@@ -51,19 +53,40 @@ isListed (Entry p) = true
 isListed (Act a) = true
 isListed Unlisted = false
 
+-- the code of a set or clear command
+abbrev pub codeOf : Action → ℕ
+codeOf SoftwareReset = 0x10
+codeOf ClearVtr = 0x11
+codeOf ClearSww = 0x13
+codeOf ClearFatl = 0x14
+codeOf SetCpui = 0x15
+codeOf SetDmai = 0x16
+
+-- the set or clear command with this code
+abbrev pub isActOf : (code : ℕ) → Command → Bool
+isActOf k Mr = false
+isActOf k Sar = false
+isActOf k Dscr = false
+isActOf k (Show g) = false
+isActOf k (Entry p) = false
+isActOf k (Act a) = eqb (codeOf a) k
+isActOf k Unlisted = false
+
 abbrev pub isSoftwareReset : Command → Bool
-isSoftwareReset Mr = false
-isSoftwareReset Sar = false
-isSoftwareReset Dscr = false
-isSoftwareReset (Show g) = false
-isSoftwareReset (Entry p) = false
-isSoftwareReset (Act SoftwareReset) = true
-isSoftwareReset (Act ClearVtr) = false
-isSoftwareReset (Act ClearSww) = false
-isSoftwareReset (Act ClearFatl) = false
-isSoftwareReset (Act SetCpui) = false
-isSoftwareReset (Act SetDmai) = false
-isSoftwareReset Unlisted = false
+isSoftwareReset = isActOf 0x10
+
+-- a command on one byte of a descriptor, whatever DSCR is
+abbrev pub isAtByte : (index : ℕ) → Command → Bool
+isAtByte k Mr = false
+isAtByte k Sar = false
+isAtByte k Dscr = false
+isAtByte k (Show g) = false
+isAtByte k (Entry Base) = false
+isAtByte k (Entry Limit) = eqb 2 k
+isAtByte k (Entry Attributes) = eqb 3 k
+isAtByte k (Entry Whole) = false
+isAtByte k (Act a) = false
+isAtByte k Unlisted = false
 
 -- no row of the table has a code above %20
 past : (n : ℕ) → 0x20 < n → (rows : List (ℕ × Command)) → all (λ (row : ℕ × Command). leb (row .0) 0x20) rows ≡ true → lookUp n rows ≡ Unlisted
@@ -115,3 +138,23 @@ listed-codes =
 pub software-reset-code : (n : ℕ) → isSoftwareReset (commandOf n) ≡ eqb n 0x10
 unfolding commandOf
 software-reset-code = by-number isSoftwareReset (λ n. eqb n 0x10) refl refl λ n h. ne-eqb n 0x10 (λ e. omega arith)
+
+pub cpui-code : (n : ℕ) → isActOf 0x15 (commandOf n) ≡ eqb n 0x15
+unfolding commandOf
+cpui-code = by-number (isActOf 0x15) (λ n. eqb n 0x15) refl refl λ n h. ne-eqb n 0x15 (λ e. omega arith)
+
+pub dmai-code : (n : ℕ) → isActOf 0x16 (commandOf n) ≡ eqb n 0x16
+unfolding commandOf
+dmai-code = by-number (isActOf 0x16) (λ n. eqb n 0x16) refl refl λ n h. ne-eqb n 0x16 (λ e. omega arith)
+
+pub limit-codes : (n : ℕ) → isAtByte 2 (commandOf n) ≡ (eqb n 0x09 || eqb n 0x0D)
+unfolding commandOf
+limit-codes =
+    by-number (isAtByte 2) (λ n. eqb n 0x09 || eqb n 0x0D) refl refl λ n h.
+    simp (ne-eqb n 0x09 (λ e. omega arith), ne-eqb n 0x0D (λ e. omega arith))
+
+pub attributes-codes : (n : ℕ) → isAtByte 3 (commandOf n) ≡ (eqb n 0x0A || eqb n 0x0E)
+unfolding commandOf
+attributes-codes =
+    by-number (isAtByte 3) (λ n. eqb n 0x0A || eqb n 0x0E) refl refl λ n h.
+    simp (ne-eqb n 0x0A (λ e. omega arith), ne-eqb n 0x0E (λ e. omega arith))

@@ -30,7 +30,7 @@ use Rattle.runs.specs.Exchange.{CpuiTwice, DmaiTwice, CpuiDmai, SwwFatl,
 use Rattle.runs.specs.Sequences.{Every, among, all}
 use Rattle.runs.specs.Undamaged.{Undamaged}
 use Rattle.runs.proofs.Apart.{not-exchanged, only-part, only-alike}
-use Rattle.runs.proofs.Codes.{by-number, past-list}
+use Rattle.runs.proofs.Codes.{codeOf, by-number, past-list}
 use Rattle.runs.proofs.Effects.{done, left, raises, resets, effect, does, said, request, acted-on, act-done}
 use Rattle.runs.proofs.Effects.{either, within, idle, clash, no-clash, passes, isReset, request-after}
 use Rattle.runs.proofs.Tests.{and-l, and-r, same, of-each, all-true}
@@ -70,15 +70,6 @@ of-actions P h ClearSww = h .1 .1 .0
 of-actions P h ClearFatl = h .1 .1 .1 .0
 of-actions P h SetCpui = h .1 .1 .1 .1 .0
 of-actions P h SetDmai = h .1 .1 .1 .1 .1 .0
-
--- the code of each
-abbrev codeOf : Action → ℕ
-codeOf SoftwareReset = 0x10
-codeOf ClearVtr = 0x11
-codeOf ClearSww = 0x13
-codeOf ClearFatl = 0x14
-codeOf SetCpui = 0x15
-codeOf SetDmai = 0x16
 
 reset-code : (a : Action) → clearsTrap (codeOf a) ≡ isReset (effect a)
 reset-code = of-actions (λ a. clearsTrap (codeOf a) ≡ isReset (effect a)) (refl, (refl, (refl, (refl, (refl, (refl, refl))))))

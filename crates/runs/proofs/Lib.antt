@@ -20,10 +20,12 @@ pub mod Hold
 pub mod Trap
 pub mod Notes
 pub mod Wider
+pub mod Descriptors
 pub mod Pairs
 pub mod Tighter
 pub mod Others
 pub mod Needed
+pub mod DescriptorsNeeded
 pub mod OthersNeeded
 pub mod Apart
 pub mod Exchange

@@ -6,6 +6,7 @@ pub mod Undamaged
 pub mod Refusal
 pub mod Answers
 pub mod Hold
+pub mod Descriptors
 pub mod Trap
 pub mod Notes
 pub mod Tighter
