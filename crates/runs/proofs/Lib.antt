@@ -19,6 +19,7 @@ pub mod Answers
 pub mod Hold
 pub mod Trap
 pub mod Notes
+pub mod Reported
 pub mod Wider
 pub mod Descriptors
 pub mod Pairs

@@ -7,6 +7,7 @@ pub mod Refusal
 pub mod Answers
 pub mod Hold
 pub mod Descriptors
+pub mod Reported
 pub mod Trap
 pub mod Notes
 pub mod Tighter
