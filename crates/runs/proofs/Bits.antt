@@ -72,13 +72,13 @@ lacks-and v m h =
 pub lacks-small : (e : ℕ) → e < 64 → lacks e PRIMARY ≡ eqb e 0
 lacks-small e h = let low : e % 64 ≡ e = omega arith in rw (primary e, low)
 
--- six bits
-pub small-if : (t : Bool) (m : ℕ) → m < 64 → flagIf t m < 64
+-- so many bits
+pub small-if : {n : ℕ} (t : Bool) (m : ℕ) → m < n → flagIf t m < n
 small-if true m h = h
-small-if false m h = lit< tt
+small-if false m h = omega arith
 
-pub or-if : {x : ℕ} (t : Bool) (m : ℕ) → m < 64 → x < 64 → with x (flagIf t m) < 64
-or-if {x} t m h k = or-lt 6 x (flagIf t m) k (small-if t m h)
+pub or-if : {x : ℕ} (k : ℕ) (t : Bool) (m : ℕ) → m < 2 ^ k → x < 2 ^ k → with x (flagIf t m) < 2 ^ k
+or-if {x} k t m h l = or-lt k x (flagIf t m) l (small-if t m h)
 
 -- Flags set and cleared twice
 

@@ -1,19 +1,18 @@
 -- A CPU violation leaves a primary flag in VTR, and a request unless FATL stood.
 -- Assumes nothing.
 use mathlib.Core.Path.{_≡_, refl, _∙_, ap}
-use mathlib.Core.Bool.{Bool, true, false, not, _&&_, _||_, and-false, true≢false, false≢true}
+use mathlib.Core.Bool.{Bool, true, false, not, _&&_, _||_, true≢false, false≢true}
 use mathlib.Core.List.{_∷_}
 use Prim.Native.Nat.{ℕ, _<_}
 use native.Mathlib.Omega.{arith}
-use lib.Bits.{or-lt}
 use lib.Dec.{eqb, lit<}
 use lib.ListN.{getD, replicate}
 use borrow.Author.Tests.{ne-eqb, not-true}
 use Rattle.rules.proofs.Blind.{isTranslated}
-use Rattle.rules.specs.Bus.{cpu, write, fetch, program}
+use Rattle.rules.specs.Bus.{cpu, fetch}
 use Rattle.rules.specs.Checks.{rightsOf, outOfLength}
 use Rattle.rules.specs.Flags.{has, lacks, with, flagIf}
-use Rattle.rules.specs.Masks.{SYS, CPUI, EXC, DMAI, RD, RDV, SYSV, SLV, CPUIV, EXCV, DMAIV, DIRW, PWW, FATL, SWW, PRIMARY}
+use Rattle.rules.specs.Masks.{SLV, DIRW, PWW, SWW, FATL, PRIMARY}
 use Rattle.rules.specs.PowerOn.{none, powerOn}
 use Rattle.rules.specs.Refusals.{damaged, outOfRange}
 use Rattle.rules.specs.Rows.{segment, cycle}
@@ -37,7 +36,7 @@ use Rattle.runs.specs.Refusal.{admitted}
 use Rattle.runs.specs.Reported.{faulted, OwnRequests, ViolationReported, OwnRequestsKept, ReportedFromPowerOn, OwnNeeded, FatlSilent}
 use Rattle.runs.specs.Sequences.{_⇒_}
 use Rattle.runs.proofs.Answers.{breaks-exactly, memory-place}
-use Rattle.runs.proofs.Bits.{or-none, lacks-or, lacks-small}
+use Rattle.runs.proofs.Bits.{or-if, or-none, lacks-or, lacks-small}
 use Rattle.runs.proofs.Computed.{computed}
 use Rattle.runs.proofs.Looks.{conditions-way}
 use Rattle.runs.proofs.Purposes.{isMemory, memory-status}
@@ -45,28 +44,11 @@ use Rattle.runs.proofs.Registers.{fails}
 use Rattle.runs.proofs.Runs.{always}
 use Rattle.runs.proofs.Tests.{and-l, and-r}
 use Rattle.runs.proofs.Ways.{Became, stayed, controls, empties, clears, restarts, quiets, resumes, begins}
-use Rattle.runs.proofs.Ways.{records, by-row, made}
+use Rattle.runs.proofs.Ways.{records, by-row, rights-small, made}
 use Rattle.rules.specs.declared.Purpose.the-variants as purpose
 use Rattle.rules.specs.declared.Way.the-variants as way
 
 -- The event of a CPU violation: some flag, and not PWW
-
-five-if : {x : ℕ} (t : Bool) (m : ℕ) → m < 32 → x < 32 → with x (flagIf t m) < 32
-five-if {x} true m h k = or-lt 5 x m k h
-five-if {x} false m h k = or-lt 5 x 0 k (lit< tt)
-
-rights-five : (a : ℕ) (c : Cycle) → c .dma ≡ false → rightsOf a c < 32
-unfolding rightsOf
-rights-five a c e =
-    or-lt 5 _ (flagIf (has a DMAI && c .dma) DMAIV)
-    (five-if (has a EXC && not (program c)) EXCV (lit< tt)
-    (five-if (has a CPUI && cpu c) CPUIV (lit< tt)
-    (five-if (has a SYS && c .normal) SYSV (lit< tt) (first (has a RD && write c)))))
-    (rw (e, and-false (has a DMAI)) (lit< tt))
-  where
-    first : (t : Bool) → flagIf t RDV < 32
-    first true = lit< tt
-    first false = lit< tt
 
 module _ (d : Descriptor) (c : Cycle) (cpus : c .dma ≡ false) (v : fails d c ≡ true) where
   flags : ℕ
@@ -83,7 +65,7 @@ module _ (d : Descriptor) (c : Cycle) (cpus : c .dma ≡ false) (v : fails d c �
 
   flags-five : flags < 32
   unfolding flags
-  flags-five = five-if (outOfLength d c) SLV (lit< tt) (rights-five (d .attributes) c cpus)
+  flags-five = or-if 5 (outOfLength d c) SLV (lit< tt) (rights-small (d .attributes) c cpus)
 
   event-flags : (w : Bool) → eventOf (c .dma) true w (rightsOf (d .attributes) c) (outOfLength d c) ≡ flags
   unfolding flags eventOf

@@ -74,7 +74,7 @@ bounded-exactly r = (sound-bounded r, bounded-sound r)
 bus-bounded : (c : Cycle) → busStatus c ≤ 63
 unfolding busStatus
 bus-bounded c =
-    let h : busStatus c < 64 = or-if (c .normal) NORMAL (lit< tt) (or-if {x = c .status % 16} (c .read) READ (lit< tt) (omega arith)) in
+    let h : busStatus c < 64 = or-if 6 (c .normal) NORMAL (lit< tt) (or-if {x = c .status % 16} 6 (c .read) READ (lit< tt) (omega arith)) in
     omega (arith, h)
 
 became-bounded : {back : Bool} {c : Cycle} {r s : Registers} → Became back c r s → Bounded r → Bounded s

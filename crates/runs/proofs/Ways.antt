@@ -85,23 +85,26 @@ by-row P r c event none first own later =
     go false false false true false e p = later SWW p
     go false false false false t e p = later FATL p
 
--- the flags of a CPU cycle fit six bits: DMAI has no part in them
-rights-small : (a : ℕ) (c : Cycle) → c .dma ≡ false → rightsOf a c < 64
+-- the rights of a CPU cycle fit five bits: DMAI has no part in them
+pub rights-small : (a : ℕ) (c : Cycle) → c .dma ≡ false → rightsOf a c < 32
 unfolding rightsOf
 rights-small a c e =
-    or-lt 6 _ (flagIf (has a DMAI && c .dma) DMAIV)
-    (or-if (has a EXC && not (program c)) EXCV (lit< tt)
-    (or-if (has a CPUI && cpu c) CPUIV (lit< tt)
-    (or-if (has a SYS && c .normal) SYSV (lit< tt) (small-if (has a RD && write c) RDV (lit< tt)))))
+    or-lt 5 _ (flagIf (has a DMAI && c .dma) DMAIV)
+    (or-if 5 (has a EXC && not (program c)) EXCV (lit< tt)
+    (or-if 5 (has a CPUI && cpu c) CPUIV (lit< tt)
+    (or-if 5 (has a SYS && c .normal) SYSV (lit< tt) (small-if (has a RD && write c) RDV (lit< tt)))))
     (rw (e, and-false (has a DMAI)) (lit< tt))
 
+-- a violation's flags too, and PWW is the sixth
 event-small : (a : ℕ) (c : Cycle) (violation warning long : Bool) → eventOf (c .dma) violation warning (rightsOf a c) long < 64
 unfolding eventOf
 event-small a c violation warning long = go (c .dma) violation warning refl
   where
     go : (dma v w : Bool) → c .dma ≡ dma → eventBy dma v w (with (rightsOf a c) (flagIf long SLV)) < 64
     go true v w e = lit< tt
-    go false true w e = or-if long SLV (lit< tt) (rights-small a c e)
+    go false true w e =
+        let flags : with (rightsOf a c) (flagIf long SLV) < 32 = or-if 5 long SLV (lit< tt) (rights-small a c e) in
+        omega (arith, flags)
     go false false true e = lit< tt
     go false false false e = lit< tt
 
