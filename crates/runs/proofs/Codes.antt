@@ -139,6 +139,10 @@ pub software-reset-code : (n : ℕ) → isSoftwareReset (commandOf n) ≡ eqb n 
 unfolding commandOf
 software-reset-code = by-number isSoftwareReset (λ n. eqb n 0x10) refl refl λ n h. ne-eqb n 0x10 (λ e. omega arith)
 
+pub clear-vtr-code : (n : ℕ) → isActOf 0x11 (commandOf n) ≡ eqb n 0x11
+unfolding commandOf
+clear-vtr-code = by-number (isActOf 0x11) (λ n. eqb n 0x11) refl refl λ n h. ne-eqb n 0x11 (λ e. omega arith)
+
 pub cpui-code : (n : ℕ) → isActOf 0x15 (commandOf n) ≡ eqb n 0x15
 unfolding commandOf
 cpui-code = by-number (isActOf 0x15) (λ n. eqb n 0x15) refl refl λ n h. ne-eqb n 0x15 (λ e. omega arith)

@@ -20,6 +20,7 @@ pub mod Hold
 pub mod Trap
 pub mod Notes
 pub mod Reported
+pub mod FirstFault
 pub mod Wider
 pub mod Descriptors
 pub mod Pairs

@@ -38,17 +38,17 @@ began-ordered : (r : Registers) (starts : Bool) → Ordered (r .notes) → Order
 unfolding begun
 began-ordered r starts h = record { own = λ z. h .own (and-l (r .notes .own) _ z); awaits = h .awaits }
 
-became-ordered : {back : Bool} {c : Cycle} {r s : Registers} → Became back c r s → Ordered (r .notes) → Ordered (s .notes)
+became-ordered : {back wiped : Bool} {c : Cycle} {r s : Registers} → Became back wiped c r s → Ordered (r .notes) → Ordered (s .notes)
 unfolding controlled cleared restarted quieted resumed noted
 became-ordered stayed h = h
 became-ordered (controls k f) h = h
-became-ordered empties h = h
+became-ordered (empties w) h = h
 became-ordered (clears flag f) h = h
-became-ordered (restarts mr f) h = quiet-ordered
+became-ordered (restarts mr f w) h = quiet-ordered
 became-ordered (quiets f) h = quiet-ordered
 became-ordered resumes h = record { own = λ z. z; awaits = λ z. absurd (false≢true z) }
 became-ordered {r} (begins starts) h = began-ordered r starts h
-became-ordered {c} {r} (records starts event small stores holds) h =
+became-ordered {c} {r} (records starts event small stores holds w) h =
     let k : Ordered (recorded (begun r starts) c event .notes) = recorded-ordered (begun r starts) c event (began-ordered r starts h) in
     record { own = k .own; awaits = k .awaits }
 

@@ -55,17 +55,17 @@ recorded-rooted r c event small h =
     (λ n p. or-rooted v event (rw (p, lacks-small event small) n))
     (λ p. or-rooted v event (rw p)) (λ flag p. or-rooted v flag (rw p))
 
-pub became-rooted : {back : Bool} {c : Cycle} {r s : Registers} → Became back c r s → Rooted r → Rooted s
+pub became-rooted : {back wiped : Bool} {c : Cycle} {r s : Registers} → Became back wiped c r s → Rooted r → Rooted s
 unfolding controlled cleared restarted quieted resumed begun noted
 became-rooted stayed h = h
 became-rooted (controls k f) h = h
-became-rooted empties h = refl
+became-rooted (empties w) h = refl
 became-rooted {r} (clears flag f) h = and-rooted (r .faults .vtr) (255 - flag) f h
-became-rooted (restarts mr f) h = refl
+became-rooted (restarts mr f w) h = refl
 became-rooted (quiets f) h = h
 became-rooted resumes h = h
 became-rooted (begins starts) h = h
-became-rooted {c} {r} (records starts event small stores holds) h = recorded-rooted (begun r starts) c event small h
+became-rooted {c} {r} (records starts event small stores holds w) h = recorded-rooted (begun r starts) c event small h
 
 rooted-after : (u : Unit) (c : Cycle) → Rooted (u .registers) → Rooted (stepped u c .unit .registers)
 unfolding after

@@ -171,17 +171,17 @@ violation-reported u c h e =
 abbrev Asks : Registers → Type 0
 Asks r = r .notes .own ⇒ r .notes .request
 
-became-asks : {back : Bool} {c : Cycle} {r s : Registers} → Became back c r s → Asks r → Asks s
+became-asks : {back wiped : Bool} {c : Cycle} {r s : Registers} → Became back wiped c r s → Asks r → Asks s
 unfolding controlled cleared restarted quieted resumed begun noted firstEntry added raised
 became-asks stayed h = h
 became-asks (controls k f) h = h
-became-asks empties h = h
+became-asks (empties w) h = h
 became-asks (clears flag f) h = h
-became-asks (restarts mr f) h = λ z. z
+became-asks (restarts mr f w) h = λ z. z
 became-asks (quiets f) h = λ z. z
 became-asks resumes h = λ z. absurd (false≢true z)
 became-asks {r} (begins starts) h = λ z. h (and-l (r .notes .own) _ z)
-became-asks {c} {r} (records starts event small stores holds) h =
+became-asks {c} {r} (records starts event small stores holds w) h =
     by-row Asks (begun r starts) c event (λ z. h (and-l (r .notes .own) _ z)) (λ n p z. refl) (λ p z. h (and-l (r .notes .own) _ z))
     (λ flag p z. rw (h (and-l (r .notes .own) _ z)))
 

@@ -25,17 +25,17 @@ trap-shows u c = made u c .shown
 abbrev Requests : Registers → Type 0
 Requests r = r .notes .request ≡ true
 
-became-requests : {back : Bool} {c : Cycle} {r s : Registers} → Became back c r s → back ≡ false → Requests r → Requests s
+became-requests : {back wiped : Bool} {c : Cycle} {r s : Registers} → Became back wiped c r s → back ≡ false → Requests r → Requests s
 unfolding controlled cleared resumed begun noted firstEntry added raised
 became-requests stayed e h = h
 became-requests (controls k f) e h = h
-became-requests empties e h = h
+became-requests (empties w) e h = h
 became-requests (clears flag f) e h = h
-became-requests (restarts mr f) e h = absurd (true≢false (sym f ∙ e))
+became-requests (restarts mr f w) e h = absurd (true≢false (sym f ∙ e))
 became-requests (quiets f) e h = absurd (true≢false (sym f ∙ e))
 became-requests resumes e h = h
 became-requests (begins starts) e h = h
-became-requests {c} {r} (records starts event small stores holds) e h =
+became-requests {c} {r} (records starts event small stores holds w) e h =
     by-row Requests (begun r starts) c event h (λ n p. refl) (λ p. h) (λ flag p. rw h)
 
 request-stands : (u : Unit) (c : Cycle) → takesBack u c ≡ false → Requests (u .registers) → Requests (stepped u c .unit .registers)

@@ -77,17 +77,17 @@ bus-bounded c =
     let h : busStatus c < 64 = or-if 6 (c .normal) NORMAL (lit< tt) (or-if {x = c .status % 16} 6 (c .read) READ (lit< tt) (omega arith)) in
     omega (arith, h)
 
-became-bounded : {back : Bool} {c : Cycle} {r s : Registers} → Became back c r s → Bounded r → Bounded s
+became-bounded : {back wiped : Bool} {c : Cycle} {r s : Registers} → Became back wiped c r s → Bounded r → Bounded s
 unfolding controlled cleared restarted quieted resumed begun noted firstEntry added raised
 became-bounded stayed h = h
 became-bounded (controls k f) h = record { sar = f .0 (h .sar); vsn = h .vsn; isn = h .isn; bcsr = h .bcsr; dscr = f .1 (h .dscr) }
-became-bounded empties h = omega arith
+became-bounded (empties w) h = omega arith
 became-bounded (clears flag f) h = omega arith
-became-bounded (restarts mr f) h = omega arith
+became-bounded (restarts mr f w) h = omega arith
 became-bounded (quiets f) h = omega arith
 became-bounded resumes h = omega arith
 became-bounded (begins starts) h = omega arith
-became-bounded {c} {r} (records starts event small stores holds) h =
+became-bounded {c} {r} (records starts event small stores holds w) h =
     let f : Bounded (recorded (begun r starts) c event) =
     by-row Bounded (begun r starts) c event (omega arith)
     (λ n p. record { sar = h .sar; vsn = omega arith; isn = h .isn; bcsr = bus-bounded c; dscr = h .dscr })

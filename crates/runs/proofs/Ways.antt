@@ -36,11 +36,12 @@ use Rattle.rules.specs.declared.Purpose.{Purpose}
 use Rattle.rules.specs.declared.Registers.{Registers}
 use Rattle.rules.specs.declared.Unit.{Unit}
 use Rattle.rules.specs.declared.Way.{Way}
+use Rattle.runs.specs.FirstFault.{wipes}
 use Rattle.runs.specs.Trap.{takesBack}
 use Rattle.runs.proofs.Bits.{small-if, or-if}
-use Rattle.runs.proofs.Codes.{isSoftwareReset, software-reset-code}
+use Rattle.runs.proofs.Codes.{isActOf, software-reset-code, clear-vtr-code}
 use Rattle.runs.proofs.Purposes.{isCommand, isAcknowledge, command-status, acknowledge-status}
-use Rattle.runs.proofs.Tests.{cond-le}
+use Rattle.runs.proofs.Tests.{and-r, cond-le}
 use Rattle.rules.specs.declared.Purpose.the-variants as purpose
 use Rattle.rules.specs.declared.Way.the-variants as way
 
@@ -48,24 +49,25 @@ use Rattle.rules.specs.declared.Way.the-variants as way
 abbrev Follows : Control → Control → Type 0
 Follows j k = (j .sar ≤ 63 → k .sar ≤ 63) × (j .dscr ≤ 3 → k .dscr ≤ 3)
 
--- s comes from r in a cycle c; `back` says that the cycle is one that takes the trap line back
-pub data Became (back : Bool) (c : Cycle) (r : Registers) : Registers → Type 0 where
-  stayed : Became back c r r
-  controls : (k : Control) → Follows (r .control) k → Became back c r (controlled r k)
-  empties : Became back c r (cleared r 0)
+-- s comes from r in a cycle c; `back` says that the cycle is one that takes the trap line back, `wiped` that it is one that empties the VTR
+pub data Became (back wiped : Bool) (c : Cycle) (r : Registers) : Registers → Type 0 where
+  stayed : Became back wiped c r r
+  controls : (k : Control) → Follows (r .control) k → Became back wiped c r (controlled r k)
+  empties : wiped ≡ true → Became back wiped c r (cleared r 0)
   -- a flag that is not primary
-  clears : (flag : ℕ) → (255 - flag) % 64 ≡ 63 → Became back c r (cleared r (without (r .faults .vtr) flag))
-  restarts : (mr : ℕ) → back ≡ true → Became back c r (restarted r mr)
-  quiets : back ≡ true → Became back c r (quieted r)
-  resumes : Became back c r (resumed r)
-  begins : (starts : Bool) → Became back c r (begun r starts)
-  records : (starts : Bool) (event : ℕ) → event < 64 → (stores holds : Bool)
-      → Became back c r (noted (recorded (begun r starts) c event) stores holds c)
+  clears : (flag : ℕ) → (255 - flag) % 64 ≡ 63 → Became back wiped c r (cleared r (without (r .faults .vtr) flag))
+  restarts : (mr : ℕ) → back ≡ true → wiped ≡ true → Became back wiped c r (restarted r mr)
+  quiets : back ≡ true → Became back wiped c r (quieted r)
+  resumes : Became back wiped c r (resumed r)
+  begins : (starts : Bool) → Became back wiped c r (begun r starts)
+  -- ISN and IOFF are stored only while VTR is zero
+  records : (starts : Bool) (event : ℕ) → event < 64 → (stores holds : Bool) → (stores ≡ true → eqb (r .faults .vtr) 0 ≡ true)
+      → Became back wiped c r (noted (recorded (begun r starts) c event) stores holds c)
 
 -- one decision
-pub record Made (back : Bool) (c : Cycle) (r : Registers) (x : Decision) : Type 0 where
+pub record Made (back wiped : Bool) (c : Cycle) (r : Registers) (x : Decision) : Type 0 where
   pub shown : x .answer .trap ≡ x .registers .notes .request
-  pub became : Became back c r (x .registers)
+  pub became : Became back wiped c r (x .registers)
 
 -- Recording, row by row: what holds of each row's registers holds of what is recorded
 pub by-row : (P : Registers → Type 0) (r : Registers) (c : Cycle) (event : ℕ) → P r
@@ -115,18 +117,23 @@ counter-bounded Limit n = omega arith
 counter-bounded Attributes n = omega arith
 counter-bounded Whole n = omega arith
 
-module _ (back : Bool) (c : Cycle) (r : Registers) (d : Descriptor) where
+module _ (back wiped : Bool) (c : Cycle) (r : Registers) (d : Descriptor) where
   -- Memory cycles
 
-  accessed-made : (starts : Bool) (l : Lines) → Made back c r (accessed (begun r starts) d c l)
-  unfolding accessed checked seen noted
+  accessed-made : (starts : Bool) (l : Lines) → Made back wiped c r (accessed (begun r starts) d c l)
+  unfolding accessed checked seen noted begun
   accessed-made starts l =
       let rights : ℕ = rightsOf (d .attributes) c in
       let long : Bool = outOfLength d c in
       let v : Bool = violates rights long in
-      record { shown = refl; became = records starts _ (event-small (d .attributes) c v (warns d c v) long) (storing (begun r starts) c v) (v && cpu c) }
+      record {
+        shown = refl;
+        became =
+            records starts _ (event-small (d .attributes) c v (warns d c v) long) (storing (begun r starts) c v) (v && cpu c)
+            (λ e. and-r (fetch c && not v) _ e);
+      }
 
-  memory-made : (b : Bool) (w : Way) (l : Lines) → Made back c r (memoryBy b w r d c l)
+  memory-made : (b : Bool) (w : Way) (l : Lines) → Made back wiped c r (memoryBy b w r d c l)
   unfolding aborted seen untranslated resumed
   memory-made true w l = record { shown = refl; became = resumes }
   memory-made false way.Translated l = accessed-made (fetch c) l
@@ -135,7 +142,7 @@ module _ (back : Bool) (c : Cycle) (r : Registers) (d : Descriptor) where
 
   -- Commands
 
-  programmed-made : (old : ℕ) (k : Control) → Follows (r .control) k → Made back c r (programmed r c old k)
+  programmed-made : (old : ℕ) (k : Control) → Follows (r .control) k → Made back wiped c r (programmed r c old k)
   unfolding programmed given controlled
   programmed-made old k h = record { shown = refl; became = controls _ (either (c .read)) }
     where
@@ -143,7 +150,7 @@ module _ (back : Bool) (c : Cycle) (r : Registers) (d : Descriptor) where
       either true = (λ s. s, λ s. s)
       either false = h
 
-  entry-made : (p : Part) → Made back c r (entry r d p c)
+  entry-made : (p : Part) → Made back wiped c r (entry r d p c)
   unfolding entry given controlled moved nextSegment
   entry-made p =
       record {
@@ -153,38 +160,42 @@ module _ (back : Bool) (c : Cycle) (r : Registers) (d : Descriptor) where
             (λ s. cond-le (steps (c .offset) && eqb (nextCounter p (r .control .dscr)) 0) (omega arith) s, λ s. counter-bounded p (r .control .dscr));
       }
 
-  acted-made : (a : Action) → (isSoftwareReset (Act a) ≡ true → back ≡ true) → Made back c r (acted r a)
+  acted-made : (a : Action) → (isActOf 0x10 (Act a) ≡ true → back ≡ true) → ((isActOf 0x10 (Act a) || isActOf 0x11 (Act a)) ≡ true → wiped ≡ true)
+      → Made back wiped c r (acted r a)
   unfolding acted plain
-  acted-made SoftwareReset t = record { shown = refl; became = restarts 0 (t refl) }
-  acted-made ClearVtr t = record { shown = refl; became = empties }
-  acted-made ClearSww t = record { shown = refl; became = clears SWW refl }
-  acted-made ClearFatl t = record { shown = refl; became = clears FATL refl }
-  acted-made SetCpui t = record { shown = refl; became = stayed }
-  acted-made SetDmai t = record { shown = refl; became = stayed }
+  acted-made SoftwareReset t z = record { shown = refl; became = restarts 0 (t refl) (z refl) }
+  acted-made ClearVtr t z = record { shown = refl; became = empties (z refl) }
+  acted-made ClearSww t z = record { shown = refl; became = clears SWW refl }
+  acted-made ClearFatl t z = record { shown = refl; became = clears FATL refl }
+  acted-made SetCpui t z = record { shown = refl; became = stayed }
+  acted-made SetDmai t z = record { shown = refl; became = stayed }
 
-  executed-made : (m : Command) (read : Bool) → ((not read && isSoftwareReset m) ≡ true → back ≡ true) → Made back c r (executed m read r d c)
+  executed-made : (m : Command) (read : Bool) → ((not read && isActOf 0x10 m) ≡ true → back ≡ true)
+      → ((not read && isActOf 0x10 m || not read && isActOf 0x11 m) ≡ true → wiped ≡ true) → Made back wiped c r (executed m read r d c)
   unfolding executed given refused plain
-  executed-made Mr read t = programmed-made _ _ (λ s. s, λ s. s)
-  executed-made Sar read t = programmed-made _ _ (λ s. omega arith, λ s. s)
-  executed-made Dscr read t = programmed-made _ _ (λ s. s, λ s. omega arith)
-  executed-made (Show g) true t = record { shown = refl; became = stayed }
-  executed-made (Show g) false t = record { shown = refl; became = stayed }
-  executed-made (Entry p) read t = entry-made p
-  executed-made (Act a) true t = record { shown = refl; became = stayed }
-  executed-made (Act a) false t = acted-made a t
-  executed-made Unlisted read t = record { shown = refl; became = stayed }
+  executed-made Mr read t z = programmed-made _ _ (λ s. s, λ s. s)
+  executed-made Sar read t z = programmed-made _ _ (λ s. omega arith, λ s. s)
+  executed-made Dscr read t z = programmed-made _ _ (λ s. s, λ s. omega arith)
+  executed-made (Show g) true t z = record { shown = refl; became = stayed }
+  executed-made (Show g) false t z = record { shown = refl; became = stayed }
+  executed-made (Entry p) read t z = entry-made p
+  executed-made (Act a) true t z = record { shown = refl; became = stayed }
+  executed-made (Act a) false t z = acted-made a t z
+  executed-made Unlisted read t z = record { shown = refl; became = stayed }
 
 -- One cycle
 
 module _ (c : Cycle) (r : Registers) (d : Descriptor) where
   purpose-made : (p : Purpose) (x y : Bool)
-      → Made (isAcknowledge p && x || isCommand p && y && write c && isSoftwareReset (commandOf (c .offset))) c r (byPurpose p x y r d c)
+      → Made (isAcknowledge p && x || isCommand p && y && write c && isActOf 0x10 (commandOf (c .offset)))
+      (isCommand p && y && write c && isActOf 0x10 (commandOf (c .offset)) || isCommand p && y && write c && isActOf 0x11 (commandOf (c .offset)))
+      c r (byPurpose p x y r d c)
   unfolding acknowledged quieted ignored plain commanded memory
   purpose-made purpose.Acknowledge true y = record { shown = refl; became = quiets refl }
   purpose-made purpose.Acknowledge false y = record { shown = refl; became = stayed }
-  purpose-made purpose.Command x true = executed-made _ c r d (commandOf (c .offset)) (c .read) (λ t. t)
+  purpose-made purpose.Command x true = executed-made _ _ c r d (commandOf (c .offset)) (c .read) (λ t. t) (λ z. z)
   purpose-made purpose.Command x false = record { shown = refl; became = stayed }
-  purpose-made purpose.Memory x y = memory-made _ c r d (aborts r c) (wayOf (r .control .mr) c) _
+  purpose-made purpose.Memory x y = memory-made _ _ c r d (aborts r c) (wayOf (r .control .mr) c) _
   purpose-made purpose.Other x y = record { shown = refl; became = stayed }
 
   decided-made : (two one reset : Bool)
@@ -192,15 +203,23 @@ module _ (c : Cycle) (r : Registers) (d : Descriptor) where
       (not two && not one
       && (reset || not reset && eqb (c .status) 4 && cpu c
       || not reset && eqb (c .status) 3 && (cpu c && c .select) && write c && eqb (c .offset) 0x10))
+      (not two && not one
+      && (reset || not reset && eqb (c .status) 3 && (cpu c && c .select) && write c && eqb (c .offset) 0x10
+      || not reset && eqb (c .status) 3 && (cpu c && c .select) && write c && eqb (c .offset) 0x11))
       c r (decidedBy two one reset r d c)
   unfolding refused plain resetBy restarted byStatus
   decided-made true one reset = record { shown = refl; became = stayed }
   decided-made false true reset = record { shown = refl; became = stayed }
-  decided-made false false true = record { shown = refl; became = restarts _ refl }
+  decided-made false false true = record { shown = refl; became = restarts _ refl refl }
   decided-made false false false =
-      rw (← command-status (c .status), ← acknowledge-status (c .status), ← software-reset-code (c .offset))
+      rw (
+        ← command-status (c .status),
+        ← acknowledge-status (c .status),
+        ← software-reset-code (c .offset),
+        ← clear-vtr-code (c .offset),
+      )
       (purpose-made (purposeOf (c .status)) (cpu c) (cpu c && c .select))
 
-pub made : (u : Unit) (c : Cycle) → Made (takesBack u c) c (u .registers) (decision u c)
+pub made : (u : Unit) (c : Cycle) → Made (takesBack u c) (wipes u c) c (u .registers) (decision u c)
 unfolding decision decided
 made u c = decided-made c (u .registers) _ (damaged (u .registers)) (outOfRange c) (c .reset)

@@ -8,6 +8,7 @@ pub mod Answers
 pub mod Hold
 pub mod Descriptors
 pub mod Reported
+pub mod FirstFault
 pub mod Trap
 pub mod Notes
 pub mod Tighter
