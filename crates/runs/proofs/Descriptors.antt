@@ -206,12 +206,19 @@ same-then a b =
     record {
       base = b .base ∙ a .base;
       limit = b .limit ∙ a .limit;
-      flags =
-          (b .flags .0 ∙ a .flags .0,
-          (b .flags .1 .0 ∙ a .flags .1 .0,
-          (b .flags .1 .1 .0 ∙ a .flags .1 .1 .0,
-          (b .flags .1 .1 .1 .0 ∙ a .flags .1 .1 .1 .0,
-          (b .flags .1 .1 .1 .1 .0 ∙ a .flags .1 .1 .1 .1 .0, (b .flags .1 .1 .1 .1 .1 .0 ∙ a .flags .1 .1 .1 .1 .1 .0, refl))))));
+      flags = (
+        b .flags .0 ∙ a .flags .0,
+        (
+          b .flags .1 .0 ∙ a .flags .1 .0,
+          (
+            b .flags .1 .1 .0 ∙ a .flags .1 .1 .0,
+            (
+              b .flags .1 .1 .1 .0 ∙ a .flags .1 .1 .1 .0,
+              (b .flags .1 .1 .1 .1 .0 ∙ a .flags .1 .1 .1 .1 .0, (b .flags .1 .1 .1 .1 .1 .0 ∙ a .flags .1 .1 .1 .1 .1 .0, refl)),
+            ),
+          ),
+        ),
+      );
     }
 
 marked-same : {d x : Descriptor} → Marked d x → SameRules d x
@@ -219,10 +226,13 @@ marked-same h =
     record {
       base = h .base;
       limit = h .limit;
-      flags =
-          (h .flags 0 (omega arith),
-          (h .flags 1 (omega arith),
-          (h .flags 2 (omega arith), (h .flags 3 (omega arith), (h .flags 4 (omega arith), (h .flags 5 (omega arith), refl))))));
+      flags = (
+        h .flags 0 (omega arith),
+        (
+          h .flags 1 (omega arith),
+          (h .flags 2 (omega arith), (h .flags 3 (omega arith), (h .flags 4 (omega arith), (h .flags 5 (omega arith), refl)))),
+        ),
+      );
     }
 
 -- a write to a descriptor is to that at SAR

@@ -15,10 +15,11 @@ use Rattle.runs.proofs.Computed.{computed}
 -- a write of %08 puts %01 into descriptor 0, set all CPUI and set all DMAI set their flags there
 pub each-changes : EachChanges
 unfolding computed
-each-changes =
-    (λ claim. false≢true (ap (λ (n : ℕ). eqb n 0) (claim powerOn (command false 0x08 1) 0 refl .base)),
-    λ claim. true≢false (claim powerOn (command false 0x15 0) 0 refl .flags .1 .1 .0),
-    λ claim. true≢false (claim powerOn (command false 0x16 0) 0 refl .flags .1 .1 .1 .1 .0))
+each-changes = (
+  λ claim. false≢true (ap (λ (n : ℕ). eqb n 0) (claim powerOn (command false 0x08 1) 0 refl .base)),
+  λ claim. true≢false (claim powerOn (command false 0x15 0) 0 refl .flags .1 .1 .0),
+  λ claim. true≢false (claim powerOn (command false 0x16 0) 0 refl .flags .1 .1 .1 .1 .0),
+)
 
 -- a unit of no descriptors; MR %C0
 empty : Unit
@@ -26,10 +27,11 @@ empty = record { table = []; registers = translating (record { base = 0; limit =
 
 pub has-needed : HasNeeded
 unfolding empty computed
-has-needed =
-    (λ claim. true≢false (ap (λ (d : Descriptor). eqb (d .base) 0) (claim empty (command false 0x08 1) 0 refl refl)),
-    λ claim. true≢false (ap (λ (d : Descriptor). eqb (d .attributes) 0) (claim empty (command false 0x15 0) 0 refl .0 refl)),
-    λ claim. true≢false (ap (λ (d : Descriptor). eqb (d .attributes) 0) (claim empty (cycle false true false 8 0 0) 0 refl refl)))
+has-needed = (
+  λ claim. true≢false (ap (λ (d : Descriptor). eqb (d .base) 0) (claim empty (command false 0x08 1) 0 refl refl)),
+  λ claim. true≢false (ap (λ (d : Descriptor). eqb (d .attributes) 0) (claim empty (command false 0x15 0) 0 refl .0 refl)),
+  λ claim. true≢false (ap (λ (d : Descriptor). eqb (d .attributes) 0) (claim empty (cycle false true false 8 0 0) 0 refl refl)),
+)
 
 pub commands-excluded : CommandsExcluded
 unfolding computed

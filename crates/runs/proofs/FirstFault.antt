@@ -61,13 +61,22 @@ kept-refl r =
 kept-then : {r s t : Registers} → FaultKept r s → FaultKept s t → FaultKept r t
 kept-then a b =
     record {
-      flags =
-          (λ e. b .flags .0 (a .flags .0 e),
-          (λ e. b .flags .1 .0 (a .flags .1 .0 e),
-          (λ e. b .flags .1 .1 .0 (a .flags .1 .1 .0 e),
-          (λ e. b .flags .1 .1 .1 .0 (a .flags .1 .1 .1 .0 e),
-          (λ e. b .flags .1 .1 .1 .1 .0 (a .flags .1 .1 .1 .1 .0 e),
-          (λ e. b .flags .1 .1 .1 .1 .1 .0 (a .flags .1 .1 .1 .1 .1 .0 e), refl))))));
+      flags = (
+        λ e. b .flags .0 (a .flags .0 e),
+        (
+          λ e. b .flags .1 .0 (a .flags .1 .0 e),
+          (
+            λ e. b .flags .1 .1 .0 (a .flags .1 .1 .0 e),
+            (
+              λ e. b .flags .1 .1 .1 .0 (a .flags .1 .1 .1 .0 e),
+              (
+                λ e. b .flags .1 .1 .1 .1 .0 (a .flags .1 .1 .1 .1 .0 e),
+                (λ e. b .flags .1 .1 .1 .1 .1 .0 (a .flags .1 .1 .1 .1 .1 .0 e), refl),
+              ),
+            ),
+          ),
+        ),
+      );
       vsn = b .vsn ∙ a .vsn;
       voff = b .voff ∙ a .voff;
       bcsr = b .bcsr ∙ a .bcsr;
@@ -83,12 +92,14 @@ recorded-stands : (r q : Registers) (c : Cycle) (event : ℕ) → faulted q → 
 unfolding firstEntry added raised
 recorded-stands r q c event p k =
     by-row (Stands r) q c event (p, k) (λ n t. absurd (true≢false (sym t ∙ p)))
-    (λ t.
-    (lacks-or (q .faults .vtr) event ∙ rw p,
-    kept-then k (record { flags = or-kept (q .faults .vtr) event; vsn = refl; voff = refl; bcsr = refl; isn = refl; ioff = refl })))
-    (λ flag t.
-    (lacks-or (q .faults .vtr) flag ∙ rw p,
-    kept-then k (record { flags = or-kept (q .faults .vtr) flag; vsn = refl; voff = refl; bcsr = refl; isn = refl; ioff = refl })))
+    (λ t. (
+      lacks-or (q .faults .vtr) event ∙ rw p,
+      kept-then k (record { flags = or-kept (q .faults .vtr) event; vsn = refl; voff = refl; bcsr = refl; isn = refl; ioff = refl }),
+    ))
+    (λ flag t. (
+      lacks-or (q .faults .vtr) flag ∙ rw p,
+      kept-then k (record { flags = or-kept (q .faults .vtr) flag; vsn = refl; voff = refl; bcsr = refl; isn = refl; ioff = refl }),
+    ))
 
 noted-stands : (r q : Registers) (c : Cycle) (stores holds : Bool) → stores ≡ false → Stands r q → Stands r (noted q stores holds c)
 unfolding noted
@@ -110,9 +121,10 @@ unfolding controlled cleared quieted resumed
 became-stands {r} stayed e p = (p, kept-refl r)
 became-stands {r} (controls k f) e p = (p, record { flags = kept-refl r .flags; vsn = refl; voff = refl; bcsr = refl; isn = refl; ioff = refl })
 became-stands (empties w) e p = absurd (true≢false (sym w ∙ e))
-became-stands {r} (clears flag f) e p =
-    (lacks-and (r .faults .vtr) (255 - flag) f ∙ p,
-    record { flags = and-kept (r .faults .vtr) (255 - flag) f; vsn = refl; voff = refl; bcsr = refl; isn = refl; ioff = refl })
+became-stands {r} (clears flag f) e p = (
+  lacks-and (r .faults .vtr) (255 - flag) f ∙ p,
+  record { flags = and-kept (r .faults .vtr) (255 - flag) f; vsn = refl; voff = refl; bcsr = refl; isn = refl; ioff = refl },
+)
 became-stands (restarts mr f w) e p = absurd (true≢false (sym w ∙ e))
 became-stands {r} (quiets f) e p = (p, record { flags = kept-refl r .flags; vsn = refl; voff = refl; bcsr = refl; isn = refl; ioff = refl })
 became-stands {r} resumes e p = (p, record { flags = kept-refl r .flags; vsn = refl; voff = refl; bcsr = refl; isn = refl; ioff = refl })

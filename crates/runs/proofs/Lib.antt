@@ -23,6 +23,7 @@ pub mod Reported
 pub mod FirstFault
 pub mod Wider
 pub mod Descriptors
+pub mod Dma
 pub mod Pairs
 pub mod Tighter
 pub mod Others
