@@ -1,7 +1,7 @@
 -- Laws of flags set and cleared.
 -- Assumes nothing.
 use mathlib.Core.Path.{_≡_, refl, sym, _∙_, ap}
-use mathlib.Core.Bool.{Bool, true, false, not, _&&_, _||_, false≢true}
+use mathlib.Core.Bool.{Bool, true, false, _&&_, _||_}
 use Prim.Native.Nat.{ℕ, zero, suc, _+_, _-_, _*_, _/_, _%_, _^_, _<_, min, max}
 use native.Mathlib.Omega.{arith}
 use lib.Arith.{bin-ind}
@@ -9,7 +9,6 @@ use lib.Bits.{and-shr, and-mod, bitAnd, bitOr, or-shr, or-mod, or-lt, and-mask, 
 use lib.Bits.{and-step, or-step, and-comm, or-comm, or-self}
 use lib.Dec.{eqb, lit<}
 use borrow.Author.Tests.{ne-eqb}
-use Rattle.runs.specs.Sequences.{_⇒_}
 use Rattle.rules.proofs.FlagLaws.{has-bit}
 use Rattle.rules.specs.Flags.{has, lacks, with, without, flagIf}
 use Rattle.rules.specs.Masks.{PRIMARY}
@@ -43,23 +42,6 @@ pub or-none : (x y : ℕ) → eqb (bitOr x y) 0 ≡ (eqb x 0 && eqb y 0)
 or-none zero y = ap (λ (n : ℕ). eqb n 0) (or-zero-l y)
 or-none (suc x) y =
     rw (ne-eqb (suc x) 0 (λ e. omega arith)) (ne-eqb (bitOr (suc x) y) 0 λ e. omega (arith, or-add-and (suc x) y, and-le-r (suc x) y))
-
--- where y has a flag, x has one
-pub record Under (y x : ℕ) : Type 0 where
-  pub some : not (eqb y 0) ⇒ not (eqb x 0)
-
-pub or-under : {y x b a : ℕ} → Under y x → Under b a → Under (bitOr y b) (bitOr x a)
-or-under {y} {x} {b} {a} h k = record { some = rw (or-none y b, or-none x a) (both (eqb y 0) (eqb x 0) (eqb b 0) (eqb a 0) (h .some) (k .some)) }
-  where
-    both : (q p t s : Bool) → not q ⇒ not p → not t ⇒ not s → not (q && t) ⇒ not (p && s)
-    both q false t s h k e = refl
-    both false true t s h k e = absurd (false≢true (h refl))
-    both true true t s h k e = k e
-
-pub if-under : (q p : Bool) (m : ℕ) → q ⇒ p → Under (flagIf q m) (flagIf p m)
-if-under true p m h = record { some = λ e. rw (h refl) e }
-if-under false true m h = record { some = λ e. absurd (false≢true e) }
-if-under false false m h = record { some = λ e. e }
 
 pub lacks-or : (a b : ℕ) → lacks (bitOr a b) PRIMARY ≡ (lacks a PRIMARY && lacks b PRIMARY)
 lacks-or a b = rw (primary (bitOr a b), primary a, primary b, or-mod a b 6) (or-none (a % 64) (b % 64))

@@ -53,6 +53,15 @@ isListed (Entry p) = true
 isListed (Act a) = true
 isListed Unlisted = false
 
+abbrev pub isMr : Command → Bool
+isMr Mr = true
+isMr Sar = false
+isMr Dscr = false
+isMr (Show g) = false
+isMr (Entry p) = false
+isMr (Act a) = false
+isMr Unlisted = false
+
 -- the code of a set or clear command
 abbrev pub codeOf : Action → ℕ
 codeOf SoftwareReset = 0x10
@@ -162,3 +171,7 @@ unfolding commandOf
 attributes-codes =
     by-number (isAtByte 3) (λ n. eqb n 0x0A || eqb n 0x0E) refl refl λ n h.
     simp (ne-eqb n 0x0A (λ e. omega arith), ne-eqb n 0x0E (λ e. omega arith))
+
+pub mr-code : (n : ℕ) → isMr (commandOf n) ≡ eqb n 0x00
+unfolding commandOf
+mr-code = by-number isMr (λ n. eqb n 0x00) refl refl λ n h. ne-eqb n 0x00 (λ e. omega arith)

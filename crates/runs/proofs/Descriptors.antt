@@ -52,7 +52,7 @@ use Rattle.runs.proofs.Registers.{fails}
 use Rattle.runs.proofs.Tables.{set-at, at-map}
 use Rattle.runs.proofs.Tests.{and-l, and-r, or-l, or-r}
 use Rattle.runs.proofs.Undamaged.{bounded-exactly}
-use Rattle.runs.proofs.Wider.{Marked, touched-marked}
+use Rattle.runs.proofs.Wider.{touched-same}
 use Rattle.rules.specs.declared.Purpose.the-variants as purpose
 use Rattle.rules.specs.declared.Way.the-variants as way
 
@@ -221,20 +221,6 @@ same-then a b =
       );
     }
 
-marked-same : {d x : Descriptor} → Marked d x → SameRules d x
-marked-same h =
-    record {
-      base = h .base;
-      limit = h .limit;
-      flags = (
-        h .flags 0 (omega arith),
-        (
-          h .flags 1 (omega arith),
-          (h .flags 2 (omega arith), (h .flags 3 (omega arith), (h .flags 4 (omega arith), (h .flags 5 (omega arith), refl)))),
-        ),
-      );
-    }
-
 -- a write to a descriptor is to that at SAR
 pub command-place : (u : Unit) (c : Cycle) → (not (damaged (u .registers)) && descriptorWrite c) ≡ true → place u c ≡ u .registers .control .sar
 unfolding placeOf descriptorWrite
@@ -253,7 +239,7 @@ change-stays : {e p m lets : Bool} {h : Change} (c : Cycle) (k : ℕ) (t : List 
 unfolding changed
 change-stays c k t j i keeps n f g = same-refl _
 change-stays c k t j i touches n f g =
-    set-at (SameRules (getD t i none)) t j i (touched (getD t j none) c) none (same-refl _) λ q. rw q (marked-same (touched-marked c _))
+    set-at (SameRules (getD t i none)) t j i (touched (getD t j none) c) none (same-refl _) λ q. rw q (touched-same c _)
 change-stays c k t j i puts n f g =
     set-at (SameRules (getD t i none)) t j i (replaced (getD t j none) k (c .byte)) none (same-refl _) λ q. absurd (n refl q)
 change-stays c k t j i cpuis n f g = absurd (true≢false f)

@@ -25,9 +25,9 @@ use Rattle.rules.specs.declared.Purpose.{Purpose}
 use Rattle.rules.specs.declared.Registers.{Registers}
 use Rattle.rules.specs.declared.Unit.{Unit}
 use Rattle.rules.specs.declared.Way.{Way}
-use Rattle.runs.specs.Answers.{awaited, kindBy, driven, segmentOf, breaks, heldBack}
+use Rattle.runs.specs.Answers.{awaited, kindBy, driven, breaks, heldBack, SameMr}
 use Rattle.runs.specs.Cycles.{selectedCommand, acknowledge, memoryCycle, fetches, passingConditions, translationConditions}
-use Rattle.runs.specs.Dma.{SameMr, SameSegment, ByDma, DmaLeaves, DmaLeavesNeeds, DmaMarks, DmaTrap, DmaAnswers, DmaAnswersNeed}
+use Rattle.runs.specs.Dma.{SameSegment, DmaLeaves, DmaLeavesNeeds, DmaMarks, DmaTrap, DmaAnswers, DmaAnswersNeed}
 use Rattle.runs.specs.Hold.{holding}
 use Rattle.runs.specs.Refusal.{earliest, unlisted, wrongWay, admitted}
 use Rattle.runs.proofs.Answers.{kind-exactly, address-exactly, sup-exactly}

@@ -24,7 +24,7 @@ pub mod FirstFault
 pub mod Wider
 pub mod Descriptors
 pub mod Dma
-pub mod Pairs
+pub mod Unstopped
 pub mod Tighter
 pub mod Others
 pub mod Needed

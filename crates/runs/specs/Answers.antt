@@ -120,3 +120,8 @@ heldBack u c = admitted u c && memoryCycle c && cpu c && not (fetches c) && u .r
 -- fetch while hold stood. Why hold stands is in `Hold`.
 abbrev pub SupExactly : Type 0
 SupExactly = (u : Unit) (c : Cycle) → stepped u c .answer .sup ≡ (violation u c || heldBack u c)
+
+-- Two units
+
+abbrev pub SameMr : Unit → Unit → Type 0
+SameMr a b = a .registers .control .mr ≡ b .registers .control .mr

@@ -7,7 +7,7 @@ use Rattle.rules.specs.Step.{stepped}
 use Rattle.rules.specs.declared.Answer.{Answer}
 use Rattle.rules.specs.declared.Cycle.{Cycle}
 use Rattle.rules.specs.declared.Unit.{Unit}
-use Rattle.runs.specs.Answers.{segmentOf}
+use Rattle.runs.specs.Answers.{segmentOf, SameMr}
 use Rattle.runs.specs.Descriptors.{Has, MarksWhere}
 
 abbrev pub ByDma : Cycle → Type 0
@@ -47,9 +47,6 @@ pub record SameButTrap (x y : Answer) : Type 0 where
 
 abbrev pub Sound : Unit → Type 0
 Sound u = damaged (u .registers) ≡ false
-
-abbrev pub SameMr : Unit → Unit → Type 0
-SameMr a b = a .registers .control .mr ≡ b .registers .control .mr
 
 abbrev pub SameSegment : Unit → Unit → Cycle → Type 0
 SameSegment a b c = segmentOf a c ≡ segmentOf b c

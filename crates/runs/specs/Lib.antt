@@ -13,6 +13,8 @@ pub mod Dma
 pub mod Trap
 pub mod Notes
 pub mod Tighter
+pub mod Narrower
+pub mod Unstopped
 pub mod Others
 pub mod Apart
 pub mod Exchange
