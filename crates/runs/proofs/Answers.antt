@@ -43,7 +43,7 @@ use Rattle.runs.proofs.Bits.{or-none}
 use Rattle.runs.proofs.Codes.{isShow, isAct, isListed, show-codes, act-codes, listed-codes}
 use Rattle.runs.proofs.Looks.{conditions-way}
 use Rattle.runs.proofs.Purposes.{isCommand, isAcknowledge, isMemory, command-status, acknowledge-status, memory-status}
-use Rattle.runs.proofs.Tests.{and-l, and-r}
+use Rattle.runs.proofs.Tests.{and-l, and-r, differs}
 use Rattle.rules.specs.declared.Kind.the-variants as kind
 use Rattle.rules.specs.declared.Purpose.the-variants as purpose
 use Rattle.rules.specs.declared.Way.the-variants as way
@@ -238,12 +238,9 @@ aborted-exactly u c = ap isAborted (kind-exactly u c) ∙ go (awaited u c) refl
 
 -- a memory cycle looks at its segment's descriptor
 pub memory-place : (u : Unit) (c : Cycle) → memoryCycle c ≡ true → place u c ≡ c .segment % 64
-memory-place u c e = ap (λ (n : ℕ). n % 64) (own-segment (u .registers) c (go (eqb (c .status) 3) refl))
-  where
-    go : (t : Bool) → eqb (c .status) 3 ≡ t → t ≡ false
-    go false q = refl
-    go true q =
-        absurd (false≢true (sym (ap (λ (s : ℕ). leb 8 s && leb s 13) (eqb-true (c .status) 3 q)) ∙ and-r (not (c .reset)) _ e))
+memory-place u c e =
+    ap (λ (n : ℕ). n % 64)
+    (own-segment (u .registers) c (differs (λ s. leb 8 s && leb s 13) (c .status) 3 (and-r (not (c .reset)) _ e) refl))
 
 -- lines that are the same wherever they are driven
 cond-same : (t : Bool) (l m : Lines) → (t ≡ true → l ≡ m) → cond t l off ≡ cond t m off

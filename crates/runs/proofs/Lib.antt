@@ -26,8 +26,10 @@ pub mod Descriptors
 pub mod Dma
 pub mod Unstopped
 pub mod Tighter
+pub mod Narrowing
 pub mod Others
 pub mod Needed
+pub mod NarrowerNeeded
 pub mod DescriptorsNeeded
 pub mod OthersNeeded
 pub mod Apart

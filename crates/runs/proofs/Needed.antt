@@ -27,16 +27,11 @@ use Rattle.runs.specs.Cycles.{descriptorWrite}
 use Rattle.runs.specs.Sequences.{Both}
 use Rattle.runs.specs.Tighter.{Wider, Loosened, Covers, before, NoDescriptorWrite, TighterCovers, StopNeeded}
 use Rattle.runs.specs.Tighter.{WritesExcluded}
-use Rattle.runs.proofs.Examples.{unit, unit-undamaged}
+use Rattle.runs.proofs.Examples.{unit, unit-undamaged, wider-entries}
 use Rattle.runs.proofs.Wider.{wider-refl}
 
-unit-loosened : (x y x' y' z : Descriptor) → Wider x x' → Wider y y' → Loosened (unit x y z) (unit x' y' z)
-unit-loosened x y x' y' z w v = record { registers = refl; table = entries }
-  where
-    entries : (i : ℕ) → i < 64 → Wider (getD (unit x y z .table) i none) (getD (unit x' y' z .table) i none)
-    entries zero h = w
-    entries (suc zero) h = v
-    entries (suc (suc i)) h = wider-refl _
+unit-loosened : {x y x' y' z : Descriptor} → Wider x x' → Wider y y' → Loosened (unit x y z) (unit x' y' z)
+unit-loosened w v = record { registers = refl; table = wider-entries w v (wider-refl _) }
 
 -- The stop. Segment 1 is read-only in the first unit alone, segment 2 is closed to the CPU in both. A write to segment 1 is a violation in
 -- the first unit, whose next fetch is therefore an aborted one, SUP off; the second unit suppresses that fetch.
@@ -81,7 +76,7 @@ stop-needed claim = refuted _ claim refl
         false≢true
         (subst (λ (cs : List Cycle). Both Covers (answers first cs) (answers second cs)) both
         (claim first second faultThenFetch
-        (unit-undamaged _ _ _) (unit-undamaged _ _ _) (unit-loosened _ _ _ _ _ (wider-refl _) writable-wider)
+        (unit-undamaged _ _ _) (unit-undamaged _ _ _) (unit-loosened (wider-refl _) writable-wider)
         (refl, (refl, refl))) .1 .0 .sup refl)
 
 -- Writes to descriptors. Segment 0 ends at %10 in the first unit and at %20 in the second. Once DIRW is written to both, it begins there: the
@@ -112,5 +107,5 @@ unfolding short long turnThenRead answers before damaged outOfRange decided plac
 writes-excluded claim =
     false≢true
     (claim (unit short none none) (unit long none none) turnThenRead
-    (unit-undamaged _ _ _) (unit-undamaged _ _ _) (unit-loosened _ _ _ _ _ long-wider (wider-refl _))
+    (unit-undamaged _ _ _) (unit-undamaged _ _ _) (unit-loosened long-wider (wider-refl _))
     (refl, (refl, refl)) .1 .0 .sup refl)

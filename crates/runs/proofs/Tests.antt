@@ -1,6 +1,6 @@
 -- Laws of tests and of lists of facts.
 -- Assumes nothing.
-use mathlib.Core.Path.{_≡_, refl, sym, subst}
+use mathlib.Core.Path.{_≡_, refl, sym, _∙_, ap, subst}
 use mathlib.Core.Bool.{Bool, true, false, cond, _&&_, _||_, Bool·beq, false≢true}
 use mathlib.Core.List.{List, [], _∷_}
 use Prim.Native.Nat.{ℕ, zero, suc, _≤_, _<_}
@@ -52,6 +52,14 @@ same false false e = refl
 pub cond-le : {x y n : ℕ} (t : Bool) → x ≤ n → y ≤ n → cond t x y ≤ n
 cond-le true h k = h
 cond-le false h k = k
+
+-- a number of which a test holds is not one of which it fails
+pub differs : (p : ℕ → Bool) (s n : ℕ) → p s ≡ true → p n ≡ false → eqb s n ≡ false
+differs p s n h f = go (eqb s n) refl
+  where
+    go : (t : Bool) → eqb s n ≡ t → t ≡ false
+    go true e = absurd (false≢true (sym f ∙ sym (ap p (eqb-true s n e)) ∙ h))
+    go false e = refl
 
 -- a test that antt computes at each number below n
 abbrev pub each : ℕ → (ℕ → Bool) → Bool

@@ -40,7 +40,7 @@ use Rattle.runs.proofs.Codes.{isActOf, isMr, software-reset-code, mr-co
 use Rattle.runs.proofs.Descriptors.{byteIn, descriptors-stay, write-replaces, set-all-sets}
 use Rattle.runs.proofs.Hold.{hold-exactly}
 use Rattle.runs.proofs.Registers.{commandControl, controlBy, leaves}
-use Rattle.runs.proofs.Tests.{and-l, and-r, or-l, or-r, or-⇒, and-⇒}
+use Rattle.runs.proofs.Tests.{and-l, and-r, or-l, or-r, or-⇒, and-⇒, differs}
 use Rattle.runs.proofs.Undamaged.{undamaged-after, bounded-exactly}
 use Rattle.runs.proofs.Wider.{same-wider, raised-wider, replaced-wider, breaks-⇒}
 
@@ -195,21 +195,16 @@ module _ (a b : Unit) (c : Cycle) (h : Level a b) where
 
 -- SUP and hold
 
--- no other status is that of a memory cycle
-other-status : (c : Cycle) (n : ℕ) → (leb 8 n && leb n 13) ≡ false → memoryCycle c ≡ true → eqb (c .status) n ≡ false
-other-status c n f m = go (eqb (c .status) n) refl
-  where
-    go : (t : Bool) → eqb (c .status) n ≡ t → t ≡ false
-    go true e =
-        absurd (false≢true (sym f ∙ sym (ap (λ (s : ℕ). leb 8 s && leb s 13) (eqb-true (c .status) n e)) ∙ and-r (not (c .reset)) _ m))
-    go false e = refl
-
 -- of the memory cycles only a fetch ends hold
 goes-on : (u : Unit) (c : Cycle) → memoryCycle c ≡ true → fetches c ≡ false → endsHold u c ≡ false
 goes-on u c m f =
     go (admitted u c) (c .reset) (eqb (c .status) 4) (eqb (c .status) 3) (fetches c) (not-true _ (and-l (not (c .reset)) _ m))
-    (other-status c 4 refl m) (other-status c 3 refl m) f
+    (other 4 refl) (other 3 refl) f
   where
+    -- no other status is that of a memory cycle
+    other : (n : ℕ) → (leb 8 n && leb n 13) ≡ false → eqb (c .status) n ≡ false
+    other n e = differs (λ s. leb 8 s && leb s 13) (c .status) n (and-r (not (c .reset)) _ m) e
+
     go : (a r x y f : Bool) → r ≡ false → x ≡ false → y ≡ false → f ≡ false
         → (a && (r || not r && x && cpu c || f || not r && y && (cpu c && c .select) && write c && eqb (c .offset) 0x10)) ≡ false
     go true r x y f p q s t = rw (p, q, s, t)
@@ -274,10 +269,12 @@ module _ (Related : Unit → Unit → Type 0) (May : Unit → Unit → Cycle →
   unstopped : (cs : List Cycle) (so : Bool) (a b : Unit) → Related a b → (so ≡ false → HoldsFirst a b) → AlongBoth May a b cs → CoversBut so a b cs
   unfolding CoversBut AlongBoth
   unstopped [] so a b r k f = refl
-  unstopped (c ∷ cs) so a b r k f =
-      (same-address a b c (levels a b r), λ e. sup-step a b c (levels a b r) (fine e) (kept e),
-      unstopped cs (ofAborted so a c) (stepped a c .unit) (stepped b c .unit) (step a b c r (f .0))
-      (λ e. hold-step a b c (levels a b r) (fine e) (kept e)) (f .1))
+  unstopped (c ∷ cs) so a b r k f = (
+    same-address a b c (levels a b r),
+    λ e. sup-step a b c (levels a b r) (fine e) (kept e),
+    unstopped cs (ofAborted so a c) (stepped a c .unit) (stepped b c .unit) (step a b c r (f .0))
+        (λ e. hold-step a b c (levels a b r) (fine e) (kept e)) (f .1),
+  )
     where
       fine : ofAborted so a c ≡ false → abortedFetch a c ≡ false
       fine e = or-l (abortedFetch a c) _ e

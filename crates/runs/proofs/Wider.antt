@@ -55,10 +55,13 @@ touched-same c x =
     record {
       base = refl;
       limit = refl;
-      flags =
-          (flag 0 (omega arith),
-          (flag 1 (omega arith),
-          (flag 2 (omega arith), (flag 3 (omega arith), (flag 4 (omega arith), (flag 5 (omega arith), refl))))));
+      flags = (
+        flag 0 (omega arith),
+        (
+          flag 1 (omega arith),
+          (flag 2 (omega arith), (flag 3 (omega arith), (flag 4 (omega arith), (flag 5 (omega arith), refl)))),
+        ),
+      );
     }
   where
     flag : (k : ℕ) → k < 6 → has (with (with (x .attributes) REF) (flagIf (write c) CHG)) (2 ^ k) ≡ has (x .attributes) (2 ^ k)
@@ -71,12 +74,19 @@ same-wider m n w =
     record {
       base = m .base ∙ w .base ∙ sym (n .base);
       direction = m .flags .1 .1 .1 .1 .1 .0 ∙ w .direction ∙ sym (n .flags .1 .1 .1 .1 .1 .0);
-      rights =
-          (λ e. m .flags .0 ∙ w .rights .0 (sym (n .flags .0) ∙ e),
-          (λ e. m .flags .1 .0 ∙ w .rights .1 .0 (sym (n .flags .1 .0) ∙ e),
-          (λ e. m .flags .1 .1 .0 ∙ w .rights .1 .1 .0 (sym (n .flags .1 .1 .0) ∙ e),
-          (λ e. m .flags .1 .1 .1 .0 ∙ w .rights .1 .1 .1 .0 (sym (n .flags .1 .1 .1 .0) ∙ e),
-          (λ e. m .flags .1 .1 .1 .1 .0 ∙ w .rights .1 .1 .1 .1 .0 (sym (n .flags .1 .1 .1 .1 .0) ∙ e), refl)))));
+      rights = (
+        λ e. m .flags .0 ∙ w .rights .0 (sym (n .flags .0) ∙ e),
+        (
+          λ e. m .flags .1 .0 ∙ w .rights .1 .0 (sym (n .flags .1 .0) ∙ e),
+          (
+            λ e. m .flags .1 .1 .0 ∙ w .rights .1 .1 .0 (sym (n .flags .1 .1 .0) ∙ e),
+            (
+              λ e. m .flags .1 .1 .1 .0 ∙ w .rights .1 .1 .1 .0 (sym (n .flags .1 .1 .1 .0) ∙ e),
+              (λ e. m .flags .1 .1 .1 .1 .0 ∙ w .rights .1 .1 .1 .1 .0 (sym (n .flags .1 .1 .1 .1 .0) ∙ e), refl),
+            ),
+          ),
+        ),
+      );
       up = λ e. rw (m .limit, n .limit) (w .up (sym (m .flags .1 .1 .1 .1 .1 .0) ∙ e));
       down = λ e. rw (m .limit, n .limit) (w .down (sym (m .flags .1 .1 .1 .1 .1 .0) ∙ e));
     }
@@ -132,11 +142,19 @@ replaced-wider k b x y w = go (eqb k 0) (eqb k 1) (eqb k 2)
         → Wider (rep p q s x) (rep p q s y)
     go true q s h =
         record {
-          base = ap (λ (n : ℕ). b * 256 + n % 256) (w .base); direction = w .direction; rights = w .rights; up = w .up; down = w .down;
+          base = ap (λ (n : ℕ). b * 256 + n % 256) (w .base);
+          direction = w .direction;
+          rights = w .rights;
+          up = w .up;
+          down = w .down;
         }
     go false true s h =
         record {
-          base = ap (λ (n : ℕ). n / 256 * 256 + b) (w .base); direction = w .direction; rights = w .rights; up = w .up; down = w .down;
+          base = ap (λ (n : ℕ). n / 256 * 256 + b) (w .base);
+          direction = w .direction;
+          rights = w .rights;
+          up = w .up;
+          down = w .down;
         }
     go false false true h =
         record { base = w .base; direction = w .direction; rights = w .rights; up = λ e. le-refl _; down = λ e. le-refl _ }
