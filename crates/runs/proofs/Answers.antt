@@ -1,4 +1,4 @@
--- What a cycle answers: one walk over every decision shows the kind, the address lines and SUP.
+-- What a cycle answers: one walk over every decision shows the kind, the address lines, SUP, and that a refusal decides nothing else.
 -- Assumes nothing.
 use mathlib.Core.Path.{_≡_, refl, sym, _∙_, ap}
 use mathlib.Core.Bool.{Bool, true, false, cond, not, _&&_, _||_, Bool·beq, and-false, false≢true}
@@ -38,7 +38,7 @@ use Rattle.runs.specs.Answers.{awaited, kindBy, KindExactly, isAborted, 
 use Rattle.runs.specs.Answers.{breaks, SupExactly}
 use Rattle.runs.specs.Cycles.{selectedCommand, acknowledge, memoryCycle, fetches, passingConditions, translationConditions}
 use Rattle.runs.specs.Cycles.{readOnly, setOrClear, listed}
-use Rattle.runs.specs.Refusal.{earliest, refusalOf, admitted}
+use Rattle.runs.specs.Refusal.{numberIn, earliest, refusalOf, admitted}
 use Rattle.runs.proofs.Bits.{or-none}
 use Rattle.runs.proofs.Codes.{isShow, isAct, isListed, show-codes, act-codes, listed-codes}
 use Rattle.runs.proofs.Looks.{conditions-way}
@@ -50,7 +50,7 @@ use Rattle.rules.specs.declared.Way.the-variants as way
 
 -- MR
 
-abbrev isPassed : Way → Bool
+abbrev pub isPassed : Way → Bool
 isPassed way.Silent = false
 isPassed way.Passed = true
 isPassed way.Translated = false
@@ -90,47 +90,53 @@ lines-way mr base c =
 
 -- One walk
 
-record Says (x : Decision) (k : Kind) (l : Lines) (s : Bool) : Type 0 where
-  kind : x .answer .kind ≡ k
-  lines : x .answer .lines ≡ l
-  sup : x .answer .sup ≡ s
+-- a decision from the registers r with this kind is the refusal of a number, or none
+pub data Judged (r : Registers) (x : Decision) : Kind → Type 0 where
+  refuses : (n : ℕ) → x ≡ refused n r → Judged r x (kind.Refused n)
+  accepts : {k : Kind} → numberIn k ≡ none → Judged r x k
+
+pub record Says (r : Registers) (x : Decision) (k : Kind) (l : Lines) (s : Bool) : Type 0 where
+  pub kind : x .answer .kind ≡ k
+  pub lines : x .answer .lines ≡ l
+  pub sup : x .answer .sup ≡ s
+  pub left : Judged r x k
 
 module _ (r : Registers) (d : Descriptor) (c : Cycle) where
   memory-says : (b : Bool) (w : Way) (l : Lines)
-      → Says (memoryBy b w r d c l) (kindBy none false false false true b (isTranslated w) (isPassed w)) l
+      → Says r (memoryBy b w r d c l) (kindBy none false false false true b (isTranslated w) (isPassed w)) l
       (not b && (isTranslated w && violates (rightsOf (d .attributes) c) (outOfLength d c) || cpu c && (r .notes .hold && not (fetch c))))
   unfolding aborted seen untranslated begun accessed checked
-  memory-says true w l = record { kind = refl; lines = refl; sup = refl }
-  memory-says false way.Translated l = record { kind = refl; lines = refl; sup = refl }
-  memory-says false way.Passed l = record { kind = refl; lines = refl; sup = refl }
-  memory-says false way.Silent l = record { kind = refl; lines = refl; sup = refl }
+  memory-says true w l = record { kind = refl; lines = refl; sup = refl; left = accepts refl }
+  memory-says false way.Translated l = record { kind = refl; lines = refl; sup = refl; left = accepts refl }
+  memory-says false way.Passed l = record { kind = refl; lines = refl; sup = refl; left = accepts refl }
+  memory-says false way.Silent l = record { kind = refl; lines = refl; sup = refl; left = accepts refl }
 
-  acted-says : (a : Action) → Says (acted r a) kind.Command off false
+  acted-says : (a : Action) → Says r (acted r a) kind.Command off false
   unfolding acted plain
-  acted-says SoftwareReset = record { kind = refl; lines = refl; sup = refl }
-  acted-says ClearVtr = record { kind = refl; lines = refl; sup = refl }
-  acted-says ClearSww = record { kind = refl; lines = refl; sup = refl }
-  acted-says ClearFatl = record { kind = refl; lines = refl; sup = refl }
-  acted-says SetCpui = record { kind = refl; lines = refl; sup = refl }
-  acted-says SetDmai = record { kind = refl; lines = refl; sup = refl }
+  acted-says SoftwareReset = record { kind = refl; lines = refl; sup = refl; left = accepts refl }
+  acted-says ClearVtr = record { kind = refl; lines = refl; sup = refl; left = accepts refl }
+  acted-says ClearSww = record { kind = refl; lines = refl; sup = refl; left = accepts refl }
+  acted-says ClearFatl = record { kind = refl; lines = refl; sup = refl; left = accepts refl }
+  acted-says SetCpui = record { kind = refl; lines = refl; sup = refl; left = accepts refl }
+  acted-says SetDmai = record { kind = refl; lines = refl; sup = refl; left = accepts refl }
 
   executed-says : (m : Command) (read b t p : Bool)
-      → Says (executed m read r d c)
+      → Says r (executed m read r d c)
       (kindBy (earliest false false (not (isListed m)) (not read && isShow m || read && isAct m)) false false true false b t p) off false
   unfolding executed programmed given entry refused plain
-  executed-says Mr true b t p = record { kind = refl; lines = refl; sup = refl }
-  executed-says Mr false b t p = record { kind = refl; lines = refl; sup = refl }
-  executed-says Sar true b t p = record { kind = refl; lines = refl; sup = refl }
-  executed-says Sar false b t p = record { kind = refl; lines = refl; sup = refl }
-  executed-says Dscr true b t p = record { kind = refl; lines = refl; sup = refl }
-  executed-says Dscr false b t p = record { kind = refl; lines = refl; sup = refl }
-  executed-says (Show g) true b t p = record { kind = refl; lines = refl; sup = refl }
-  executed-says (Show g) false b t p = record { kind = refl; lines = refl; sup = refl }
-  executed-says (Entry x) true b t p = record { kind = refl; lines = refl; sup = refl }
-  executed-says (Entry x) false b t p = record { kind = refl; lines = refl; sup = refl }
-  executed-says (Act a) true b t p = record { kind = refl; lines = refl; sup = refl }
+  executed-says Mr true b t p = record { kind = refl; lines = refl; sup = refl; left = accepts refl }
+  executed-says Mr false b t p = record { kind = refl; lines = refl; sup = refl; left = accepts refl }
+  executed-says Sar true b t p = record { kind = refl; lines = refl; sup = refl; left = accepts refl }
+  executed-says Sar false b t p = record { kind = refl; lines = refl; sup = refl; left = accepts refl }
+  executed-says Dscr true b t p = record { kind = refl; lines = refl; sup = refl; left = accepts refl }
+  executed-says Dscr false b t p = record { kind = refl; lines = refl; sup = refl; left = accepts refl }
+  executed-says (Show g) true b t p = record { kind = refl; lines = refl; sup = refl; left = accepts refl }
+  executed-says (Show g) false b t p = record { kind = refl; lines = refl; sup = refl; left = refuses 4 refl }
+  executed-says (Entry x) true b t p = record { kind = refl; lines = refl; sup = refl; left = accepts refl }
+  executed-says (Entry x) false b t p = record { kind = refl; lines = refl; sup = refl; left = accepts refl }
+  executed-says (Act a) true b t p = record { kind = refl; lines = refl; sup = refl; left = refuses 4 refl }
   executed-says (Act a) false b t p = acted-says a
-  executed-says Unlisted read b t p = record { kind = refl; lines = refl; sup = refl }
+  executed-says Unlisted read b t p = record { kind = refl; lines = refl; sup = refl; left = refuses 3 refl }
 
   -- the way of a memory cycle, its lines and its SUP
   wayHere : Way
@@ -139,28 +145,28 @@ module _ (r : Registers) (d : Descriptor) (c : Cycle) where
   linesHere : Lines
   linesHere = linesOf wayHere (d .base) c
 
-  supHere : Bool
+  pub supHere : Bool
   supHere =
       not (aborts r c)
       && (isTranslated wayHere && violates (rightsOf (d .attributes) c) (outOfLength d c) || cpu c && (r .notes .hold && not (fetch c)))
 
   purpose-says : (p : Purpose) (x y : Bool)
-      → Says (byPurpose p x y r d c)
+      → Says r (byPurpose p x y r d c)
       (kindBy
       (earliest false false (isCommand p && y && not (isListed (commandOf (c .offset))))
       (isCommand p && y && (write c && isShow (commandOf (c .offset)) || c .read && isAct (commandOf (c .offset)))))
       false (isAcknowledge p && x) (isCommand p && y) (isMemory p) (aborts r c) (isTranslated wayHere) (isPassed wayHere))
       (cond (isMemory p) linesHere off) (isMemory p && supHere)
   unfolding wayHere linesHere supHere acknowledged ignored plain commanded memory
-  purpose-says purpose.Acknowledge true y = record { kind = refl; lines = refl; sup = refl }
-  purpose-says purpose.Acknowledge false y = record { kind = refl; lines = refl; sup = refl }
+  purpose-says purpose.Acknowledge true y = record { kind = refl; lines = refl; sup = refl; left = accepts refl }
+  purpose-says purpose.Acknowledge false y = record { kind = refl; lines = refl; sup = refl; left = accepts refl }
   purpose-says purpose.Command x true = executed-says (commandOf (c .offset)) (c .read) _ _ _
-  purpose-says purpose.Command x false = record { kind = refl; lines = refl; sup = refl }
+  purpose-says purpose.Command x false = record { kind = refl; lines = refl; sup = refl; left = accepts refl }
   purpose-says purpose.Memory x y = memory-says (aborts r c) wayHere linesHere
-  purpose-says purpose.Other x y = record { kind = refl; lines = refl; sup = refl }
+  purpose-says purpose.Other x y = record { kind = refl; lines = refl; sup = refl; left = accepts refl }
 
   decided-says : (two one reset : Bool)
-      → Says (decidedBy two one reset r d c)
+      → Says r (decidedBy two one reset r d c)
       (kindBy
       (earliest two one (not reset && eqb (c .status) 3 && (cpu c && c .select) && not (listed (c .offset)))
       (not reset && eqb (c .status) 3 && (cpu c && c .select) && (write c && readOnly (c .offset) || c .read && setOrClear (c .offset))))
@@ -170,9 +176,9 @@ module _ (r : Registers) (d : Descriptor) (c : Cycle) where
       (cond (not two && not one && (not reset && (leb 8 (c .status) && leb (c .status) 13))) linesHere off)
       (not two && not one && (not reset && (leb 8 (c .status) && leb (c .status) 13)) && supHere)
   unfolding refused resetBy plain byStatus
-  decided-says true one reset = record { kind = refl; lines = refl; sup = refl }
-  decided-says false true reset = record { kind = refl; lines = refl; sup = refl }
-  decided-says false false true = record { kind = refl; lines = refl; sup = refl }
+  decided-says true one reset = record { kind = refl; lines = refl; sup = refl; left = refuses 2 refl }
+  decided-says false true reset = record { kind = refl; lines = refl; sup = refl; left = refuses 1 refl }
+  decided-says false false true = record { kind = refl; lines = refl; sup = refl; left = accepts refl }
   decided-says false false false =
       rw (
         ← command-status (c .status),
@@ -184,10 +190,14 @@ module _ (r : Registers) (d : Descriptor) (c : Cycle) where
       )
       (purpose-says (purposeOf (c .status)) (cpu c) (cpu c && c .select))
 
-says : (u : Unit) (c : Cycle)
-    → Says (decision u c)
-    (kindBy (refusalOf u c) (c .reset) (acknowledge c) (selectedCommand c) (memoryCycle c) (awaited u c)
-    (isTranslated (wayOf (u .registers .control .mr) c)) (isPassed (wayOf (u .registers .control .mr) c)))
+-- the kind, by the way of the cycle
+abbrev pub kindSaid : Unit → Cycle → Kind
+kindSaid u c =
+    kindBy (refusalOf u c) (c .reset) (acknowledge c) (selectedCommand c) (memoryCycle c) (awaited u c)
+    (isTranslated (wayOf (u .registers .control .mr) c)) (isPassed (wayOf (u .registers .control .mr) c))
+
+pub says : (u : Unit) (c : Cycle)
+    → Says (u .registers) (decision u c) (kindSaid u c)
     (cond (admitted u c && memoryCycle c) (linesOf (wayOf (u .registers .control .mr) c) (getD (u .table) (place u c) blank .base) c) off)
     (admitted u c && memoryCycle c && supHere (u .registers) (getD (u .table) (place u c) blank) c)
 unfolding decision decided wayHere linesHere
