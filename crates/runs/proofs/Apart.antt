@@ -7,19 +7,15 @@ use mathlib.Core.List.{List, [], _∷_}
 use Prim.Native.Nat.{ℕ}
 use lib.Dec.{eqb}
 use borrow.Author.Tests.{eq-eqb, eqb-true, eqb-false}
-use Rattle.rules.specs.Refusals.{damaged, outOfRange, plain}
+use Rattle.rules.specs.Refusals.{damaged, outOfRange}
 use Rattle.rules.specs.Runs.{answers, final}
-use Rattle.rules.specs.Status.{purposeOf, byStatus}
-use Rattle.rules.specs.Codes.{commandOf}
-use Rattle.rules.specs.Entry.{replaced, indexOf, nextCounter, nextSegment, moved, writtenBy}
-use Rattle.rules.specs.Commands.{given, controlled, programmed, entry, cleared, restarted, acted, executed, commanded}
-use Rattle.rules.specs.Step.{decided, placeOf, changed, decision, after}
 use Rattle.rules.specs.declared.Answer.{Answer}
 use Rattle.runs.specs.Apart.{standing, put, seen, Row, rows, differs, EachApart, beside, apart}
 use Rattle.runs.specs.Cycles.{setsAndClears, setOrClear, writes}
 use Rattle.runs.specs.Exchange.{Exchange, FirstAlone, SameAnswers, part, clearsTrap}
 use Rattle.runs.specs.Sequences.{among, all}
 use Rattle.runs.specs.Undamaged.{Undamaged}
+use Rattle.runs.proofs.Computed.{computed}
 use Rattle.runs.proofs.Tests.{and-l, and-r, same, of-all}
 
 -- The unit and the writes
@@ -35,7 +31,7 @@ put-writes n = eq-eqb n n refl
 -- Commands that may not change places
 
 pub each-apart : EachApart
-unfolding final decision after decided damaged outOfRange placeOf changed byStatus purposeOf commandOf replaced indexOf nextCounter nextSegment moved writtenBy given controlled programmed entry restarted acted executed commanded plain
+unfolding computed
 each-apart = refl
 
 -- what is seen after two writes
@@ -76,7 +72,7 @@ abbrev needed : (x y : ℕ) → Bool
 needed x y = part y x || not (eqb (after-two x y) (seen (final standing (put x ∷ []))))
 
 each-needed : all (λ x. all (needed x) setsAndClears) setsAndClears ≡ true
-unfolding final decision after decided damaged outOfRange placeOf changed byStatus purposeOf commandOf cleared restarted acted executed commanded plain
+unfolding computed
 each-needed = refl
 
 pub only-part : (x y : ℕ) → setOrClear x ≡ true → setOrClear y ≡ true → FirstAlone x y → part y x ≡ true
@@ -97,7 +93,7 @@ taken [] = false
 taken (x ∷ xs) = not (x .trap)
 
 each-trap : all (λ x. Bool·beq (taken (answers standing (put x ∷ []))) (clearsTrap x)) setsAndClears ≡ true
-unfolding answers decision decided damaged outOfRange byStatus purposeOf commandOf cleared restarted acted executed commanded plain
+unfolding computed
 each-trap = refl
 
 trap-taken : (x : ℕ) → setOrClear x ≡ true → taken (answers standing (put x ∷ [])) ≡ clearsTrap x

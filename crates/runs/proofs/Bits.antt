@@ -7,7 +7,7 @@ use native.Mathlib.Omega.{arith}
 use lib.Arith.{bin-ind}
 use lib.Bits.{and-shr, and-mod, bitAnd, bitOr, or-shr, or-mod, or-lt, and-mask, or-zero-l, or-add-and, and-le-r}
 use lib.Bits.{and-step, or-step, and-comm, or-comm, or-self}
-use lib.Dec.{eqb, lit<}
+use lib.Dec.{eqb}
 use borrow.Author.Tests.{ne-eqb}
 use Rattle.rules.proofs.FlagLaws.{has-bit}
 use Rattle.rules.specs.Flags.{has, lacks, with, without, flagIf}

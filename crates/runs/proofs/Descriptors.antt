@@ -2,13 +2,13 @@
 -- Assumes nothing.
 use mathlib.Core.Path.{_≡_, refl, sym, _∙_, ap, subst}
 use mathlib.Core.Bool.{Bool, true, false, cond, not, _&&_, _||_, true≢false, false≢true}
-use mathlib.Core.List.{List, [], _∷_, map}
-use Prim.Native.Nat.{ℕ, zero, suc, _%_, _≤_, _<_}
+use mathlib.Core.List.{List, [], _∷_}
+use Prim.Native.Nat.{ℕ, _%_, _≤_, _<_}
 use native.Mathlib.Omega.{arith}
 use lib.Dec.{eqb, leb}
 use lib.ListN.{length, getD, set}
 use lib.Seq.{getD-set-same, getD-set-other}
-use borrow.Author.Tests.{eqb-true, eqb-false, eq-eqb, not-true, not-false}
+use borrow.Author.Tests.{eqb-true, eqb-false, eq-eqb, not-true}
 use Rattle.rules.proofs.Blind.{isTranslated}
 use Rattle.rules.specs.Bus.{cpu, write, fetch}
 use Rattle.rules.specs.Masks.{CPUI, DMAI}
@@ -29,7 +29,6 @@ use Rattle.rules.specs.declared.Change.the-variants.{Keep, Put, Raise}
 use Rattle.rules.specs.declared.Command.{Command}
 use Rattle.rules.specs.declared.Command.the-variants.{Mr, Sar, Dscr, Show, Entry, Act, Unlisted}
 use Rattle.rules.specs.declared.Cycle.{Cycle}
-use Rattle.rules.specs.declared.Decision.{Decision}
 use Rattle.rules.specs.declared.Descriptor.{Descriptor}
 use Rattle.rules.specs.declared.Lines.{Lines}
 use Rattle.rules.specs.declared.Part.{Part}
@@ -39,9 +38,9 @@ use Rattle.rules.specs.declared.Registers.{Registers}
 use Rattle.rules.specs.declared.Unit.{Unit}
 use Rattle.rules.specs.declared.Way.{Way}
 use Rattle.runs.specs.Answers.{awaited}
-use Rattle.runs.specs.Cycles.{selectedCommand, memoryCycle, translationConditions, onDescriptor, descriptorWrite, writes}
+use Rattle.runs.specs.Cycles.{selectedCommand, memoryCycle, translationConditions, onDescriptor, descriptorWrite}
 use Rattle.runs.specs.Descriptors.{descriptor, writesTo, writesHere, SameRules, changes, DescriptorsStay, DescriptorsStayThroughout}
-use Rattle.runs.specs.Descriptors.{Has, byteAt, letThrough, WriteReplaces, SetAllSets, MarksExactly}
+use Rattle.runs.specs.Descriptors.{byteAt, letThrough, WriteReplaces, SetAllSets, MarksExactly}
 use Rattle.runs.specs.Refusal.{admitted}
 use Rattle.runs.specs.Sequences.{Every, Along}
 use Rattle.runs.proofs.Answers.{memory-place}

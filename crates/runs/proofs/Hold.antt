@@ -12,7 +12,7 @@ use Rattle.rules.specs.Runs.{final}
 use Rattle.rules.specs.Step.{place, after, stepped}
 use Rattle.rules.specs.declared.Cycle.{Cycle}
 use Rattle.rules.specs.declared.Unit.{Unit}
-use Rattle.runs.specs.Answers.{violation, breaks, segmentOf, SupExactly}
+use Rattle.runs.specs.Answers.{violation, breaks, segmentOf}
 use Rattle.runs.specs.Cycles.{acknowledge, memoryCycle, fetches, softwareReset, translationConditions}
 use Rattle.runs.specs.Hold.{holds, cpuViolation, endsHold, HoldExactly, ViolatedSince, HoldByHistory, SupLasts, EachEndsHold}
 use Rattle.runs.specs.Refusal.{admitted}

@@ -1,19 +1,19 @@
 -- Why the weaker start needs what it says, and not all writes may come: runs of one or two cycles that antt computes in two units.
 -- Assumes nothing.
-use mathlib.Core.Path.{_≡_, refl, ap}
+use mathlib.Core.Path.{refl, ap}
 use mathlib.Core.Bool.{Bool, true, false, true≢false, false≢true}
 use mathlib.Core.List.{[], _∷_}
 use Prim.Native.Nat.{ℕ}
 use native.Mathlib.Omega.{arith}
 use lib.Dec.{eqb, lit≤, lit<}
-use Rattle.rules.specs.Masks.{RD, DIRW}
+use Rattle.rules.specs.Masks.{DIRW}
 use Rattle.rules.specs.PowerOn.{none, powerOn}
 use Rattle.rules.specs.Rows.{segment, cycle, command}
 use Rattle.rules.specs.declared.Cycle.{Cycle}
 use Rattle.rules.specs.declared.Descriptor.{Descriptor}
 use Rattle.rules.specs.declared.Lines.{Lines}
 use Rattle.rules.specs.declared.Unit.{Unit}
-use Rattle.runs.specs.Narrower.{Narrower, AlongBoth, HoldNeeded, MrNeeded, SarNeeded, DscrNeeded, TurnsExcluded}
+use Rattle.runs.specs.Narrower.{AlongBoth, HoldNeeded, MrNeeded, SarNeeded, DscrNeeded, TurnsExcluded}
 use Rattle.runs.specs.Tighter.{Wider, before}
 use Rattle.runs.specs.Undamaged.{Undamaged}
 use Rattle.runs.specs.Unstopped.{NarrowedNeeds}

@@ -14,7 +14,7 @@ use Rattle.rules.specs.declared.Cycle.{Cycle}
 use Rattle.rules.specs.declared.Unit.{Unit}
 use Rattle.runs.specs.Answers.{SameMr, awaited, segmentOf, breaks}
 use Rattle.runs.specs.Cycles.{selectedCommand, acknowledge, memoryCycle, fetches, softwareReset, translationConditions, onDescriptor}
-use Rattle.runs.specs.Hold.{holds, cpuViolation, endsHold}
+use Rattle.runs.specs.Hold.{holds}
 use Rattle.runs.specs.Refusal.{admitted}
 use Rattle.runs.specs.Sequences.{Every}
 use Rattle.runs.specs.Unstopped.{tableWrite, TableWrite, NarrowedInPlace, NarrowedAndPutBack, NarrowingOpensNothing}

@@ -3,30 +3,18 @@
 use mathlib.Core.Path.{_≡_, refl, subst}
 use mathlib.Core.Bool.{Bool, true, false, false≢true}
 use mathlib.Core.List.{List, [], _∷_}
-use Prim.Native.Nat.{ℕ, zero, suc, _<_}
-use lib.ListN.{getD}
 use Rattle.rules.specs.Masks.{RD, CPUI, DIRW}
 use lib.Dec.{lit≤}
 use Rattle.rules.specs.PowerOn.{none}
-use Rattle.rules.specs.Refusals.{damaged, outOfRange}
 use Rattle.rules.specs.Rows.{segment, cycle, command}
 use Rattle.rules.specs.Runs.{answers}
-use Rattle.rules.specs.Status.{purposeOf, byStatus}
-use Rattle.rules.specs.Checks.{rightsOf, outOfLength, warns}
-use Rattle.rules.specs.Recording.{eventOf, busStatus, firstEntry, recorded}
-use Rattle.rules.specs.Memory.{seen, begun, touchedBy, noted, checked, accessed, aborted, memory}
-use Rattle.rules.specs.Translation.{wayOf}
-use Rattle.rules.specs.Codes.{commandOf}
-use Rattle.rules.specs.Entry.{replaced, indexOf, nextCounter, nextSegment, moved, writtenBy}
-use Rattle.rules.specs.Commands.{given, controlled, entry, executed, commanded}
-use Rattle.rules.specs.Step.{decided, placeOf, changed, decision, after}
 use Rattle.rules.specs.declared.Cycle.{Cycle}
 use Rattle.rules.specs.declared.Descriptor.{Descriptor}
 use Rattle.rules.specs.declared.Unit.{Unit}
-use Rattle.runs.specs.Cycles.{descriptorWrite}
 use Rattle.runs.specs.Sequences.{Both}
 use Rattle.runs.specs.Tighter.{Wider, Loosened, Covers, before, NoDescriptorWrite, TighterCovers, StopNeeded}
 use Rattle.runs.specs.Tighter.{WritesExcluded}
+use Rattle.runs.proofs.Computed.{computed}
 use Rattle.runs.proofs.Examples.{unit, unit-undamaged, wider-entries}
 use Rattle.runs.proofs.Wider.{wider-refl}
 
@@ -60,7 +48,7 @@ writable-wider =
     }
 
 pub stop-needed : StopNeeded
-unfolding readOnly writable closed faultThenFetch answers before descriptorWrite damaged outOfRange decided placeOf changed decision after purposeOf byStatus seen begun touchedBy noted checked accessed aborted memory eventOf busStatus firstEntry recorded rightsOf outOfLength warns wayOf
+unfolding readOnly writable closed faultThenFetch before computed
 stop-needed claim = refuted _ claim refl
   where
     first : Unit
@@ -103,7 +91,7 @@ long-wider =
     }
 
 pub writes-excluded : WritesExcluded
-unfolding short long turnThenRead answers before damaged outOfRange decided placeOf changed decision after purposeOf byStatus seen begun checked accessed memory rightsOf outOfLength wayOf commandOf replaced indexOf nextCounter nextSegment moved writtenBy given controlled entry executed commanded
+unfolding short long turnThenRead before computed
 writes-excluded claim =
     false≢true
     (claim (unit short none none) (unit long none none) turnThenRead

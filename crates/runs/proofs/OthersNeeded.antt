@@ -10,18 +10,10 @@ use lib.ListN.{getD}
 use borrow.Author.Tests.{eq-eqb, eqb-true, leb-true, not-true}
 use Rattle.rules.specs.Masks.{RD}
 use Rattle.rules.specs.PowerOn.{none, powerOn}
-use Rattle.rules.specs.Refusals.{damaged, outOfRange, plain}
+use Rattle.rules.specs.Refusals.{outOfRange}
 use Rattle.rules.specs.Rows.{segment, cycle, command}
-use Rattle.rules.specs.Runs.{answers, final}
-use Rattle.rules.specs.Status.{ignored, purposeOf, byStatus}
-use Rattle.rules.specs.Checks.{rightsOf, outOfLength}
-use Rattle.rules.specs.Recording.{eventOf, busStatus, firstEntry, recorded}
-use Rattle.rules.specs.Memory.{seen, begun, touchedBy, noted, checked, accessed, aborted, memory}
-use Rattle.rules.specs.Translation.{wayOf, blockOf, linesOf}
-use Rattle.rules.specs.Codes.{commandOf}
-use Rattle.rules.specs.Entry.{byteOf, indexOf}
-use Rattle.rules.specs.Commands.{given, entry, acted, executed, commanded}
-use Rattle.rules.specs.Step.{decided, placeOf, changed, decision, after, stepped}
+use Rattle.rules.specs.Runs.{answers}
+use Rattle.rules.specs.Step.{stepped}
 use Rattle.rules.specs.declared.Answer.{Answer}
 use Rattle.rules.specs.declared.Cycle.{Cycle}
 use Rattle.rules.specs.declared.Descriptor.{Descriptor}
@@ -31,6 +23,7 @@ use Rattle.runs.specs.Others.{Alike, MayRead, RegistersNeeded, InsideNee
 use Rattle.runs.specs.Others.{ReadsNeeded}
 use Rattle.runs.specs.Sequences.{Along, all}
 use Rattle.runs.specs.Trap.{requesting}
+use Rattle.runs.proofs.Computed.{computed}
 use Rattle.runs.proofs.Examples.{unit, unit-undamaged}
 use Rattle.runs.proofs.Tests.{at, and-r}
 use Rattle.runs.proofs.Undamaged.{undamaged-from-power-on}
@@ -66,7 +59,7 @@ abbrev elsewhere : List Answer → Bool
 elsewhere l = all (λ (x : Answer). not (eqb (x .lines .block) 0x2000)) l
 
 read-tells : answers left (readZero ∷ []) ≡ answers right (readZero ∷ []) → ⊥
-unfolding answers outOfRange damaged decision decided placeOf purposeOf byStatus memory accessed checked seen wayOf blockOf linesOf
+unfolding computed
 read-tells same = true≢false (ap elsewhere same)
 
 pub inside-needed : InsideNeeded
@@ -86,7 +79,7 @@ abbrev faultThenFetch : List Cycle
 faultThenFetch = cycle false false false 8 2 0 ∷ cycle false true false 13 0 0 ∷ []
 
 pub aborts-needed : AbortsNeeded
-unfolding Along answers outOfRange damaged decision decided placeOf changed after purposeOf byStatus seen begun touchedBy noted checked accessed aborted memory eventOf busStatus firstEntry recorded rightsOf outOfLength wayOf blockOf linesOf
+unfolding Along computed
 aborts-needed claim =
     true≢false
     (ap elsewhere
@@ -109,7 +102,7 @@ abbrev differs : (code : ℕ) → Bool
 differs code = not (onDescriptor code && eqb (shown left code) (shown right code))
 
 each-differs : (code : ℕ) → onDescriptor code ≡ true → eqb (shown left code) (shown right code) ≡ false
-unfolding outOfRange damaged decision decided placeOf purposeOf byStatus commandOf commanded executed entry given byteOf indexOf
+unfolding computed
 each-differs code e =
     not-true _ (rw e at (at 16 differs refl code (omega (arith, leb-true code 15 (and-r (leb 8 code) _ e)))))
 
@@ -129,7 +122,7 @@ reads-needed code e claim =
 -- The registers. The trap line stands in the second unit alone; the cycle has status 0 and is ignored.
 
 pub registers-needed : RegistersNeeded
-unfolding Along answers final damaged outOfRange decision decided placeOf purposeOf byStatus ignored plain
+unfolding Along computed
 registers-needed claim =
     true≢false
     (ap (all (λ (x : Answer). not (x .trap)))
@@ -142,7 +135,7 @@ bare : Unit
 bare = record { table = []; registers = unit none none none .registers }
 
 pub size-needed : SizeNeeded
-unfolding bare Along answers outOfRange damaged decision decided placeOf changed after purposeOf byStatus commandOf commanded executed acted plain memory accessed checked seen rightsOf outOfLength wayOf begun
+unfolding bare Along computed
 size-needed claim =
     true≢false
     (ap (all (λ (x : Answer). not (x .sup)))

@@ -30,7 +30,7 @@ use Rattle.rules.specs.declared.Purpose.{Purpose}
 use Rattle.rules.specs.declared.Registers.{Registers}
 use Rattle.rules.specs.declared.Unit.{Unit}
 use Rattle.rules.specs.declared.Way.{Way}
-use Rattle.runs.specs.Answers.{awaited, segmentOf, violation, breaks}
+use Rattle.runs.specs.Answers.{awaited, segmentOf, violation}
 use Rattle.runs.specs.Cycles.{memoryCycle, translationConditions}
 use Rattle.runs.specs.Refusal.{admitted}
 use Rattle.runs.specs.Reported.{faulted, OwnRequests, ViolationReported, OwnRequestsKept, ReportedFromPowerOn, OwnNeeded, FatlSilent}

@@ -2,17 +2,13 @@
 -- Assumes nothing.
 use mathlib.Core.Path.{_≡_, refl, sym, _∙_}
 use mathlib.Core.Bool.{Bool, true, false, true≢false}
-use Rattle.rules.specs.Recording.{firstEntry, added, raised}
-use Rattle.rules.specs.Memory.{begun, noted, resumed}
-use Rattle.rules.specs.Codes.{commandOf}
-use Rattle.rules.specs.Commands.{controlled, cleared, restarted, acted, executed, commanded}
-use Rattle.rules.specs.Refusals.{damaged, outOfRange, plain}
-use Rattle.rules.specs.Status.{resetBy, acknowledged, purposeOf, byStatus}
-use Rattle.rules.specs.Step.{decided, decision, after, stepped}
+use Rattle.rules.specs.Memory.{begun}
+use Rattle.rules.specs.Step.{after, stepped}
 use Rattle.rules.specs.declared.Cycle.{Cycle}
 use Rattle.rules.specs.declared.Registers.{Registers}
 use Rattle.rules.specs.declared.Unit.{Unit}
 use Rattle.runs.specs.Trap.{TrapShows, takesBack, TrapStands, EachTakesBack}
+use Rattle.runs.proofs.Computed.{computed}
 use Rattle.runs.proofs.Runs.{kept}
 use Rattle.runs.proofs.Ways.{Became, stayed, controls, empties, clears, restarts, quiets, resumes, begins}
 use Rattle.runs.proofs.Ways.{records, by-row, made}
@@ -26,7 +22,7 @@ abbrev Requests : Registers → Type 0
 Requests r = r .notes .request ≡ true
 
 became-requests : {back wiped : Bool} {c : Cycle} {r s : Registers} → Became back wiped c r s → back ≡ false → Requests r → Requests s
-unfolding controlled cleared resumed begun noted firstEntry added raised
+unfolding computed
 became-requests stayed e h = h
 became-requests (controls k f) e h = h
 became-requests (empties w) e h = h
@@ -48,5 +44,5 @@ trap-stands u cs h q =
     (λ u c e h. (trap-shows u c ∙ request-stands u c e h, request-stands u c e h)) cs u q h .0
 
 pub each-takes-back : EachTakesBack
-unfolding decision decided damaged outOfRange resetBy byStatus purposeOf acknowledged commandOf commanded executed acted plain restarted
+unfolding computed
 each-takes-back = ((refl, refl), ((refl, refl), ((refl, refl), refl)))

@@ -3,19 +3,18 @@
 use mathlib.Core.Path.{_≡_, refl, sym, _∙_, ap, subst}
 use mathlib.Core.Bool.{Bool, true, false, cond, not, _&&_, _||_, Bool·beq, true≢false, false≢true}
 use mathlib.Core.List.{List, [], _∷_}
-use Prim.Native.Nat.{ℕ, _+_, _*_, _%_, _≤_, _<_}
+use Prim.Native.Nat.{ℕ, _+_, _*_, _%_, _<_}
 use native.Mathlib.Omega.{arith}
 use lib.Dec.{eqb, leb}
 use lib.ListN.{length}
-use borrow.Author.Tests.{eqb-true, eq-eqb, not-true}
+use borrow.Author.Tests.{eqb-true, not-true}
 use Rattle.rules.specs.Bus.{cpu, write}
 use Rattle.rules.specs.Entry.{replaced, moved}
 use Rattle.rules.specs.Flags.{has}
 use Rattle.rules.specs.Masks.{CPUI, DMAI, DIRW, TRNS}
 use Rattle.rules.specs.Refusals.{damaged, outOfRange, off}
 use Rattle.rules.specs.Codes.{commandOf}
-use Rattle.rules.specs.Step.{marked, after, stepped}
-use Rattle.rules.specs.declared.Action.{Action}
+use Rattle.rules.specs.Step.{after, stepped}
 use Rattle.rules.specs.declared.Action.the-variants.{SoftwareReset, ClearVtr, ClearSww, ClearFatl, SetCpui, SetDmai}
 use Rattle.rules.specs.declared.Command.{Command}
 use Rattle.rules.specs.declared.Command.the-variants.{Mr, Sar, Dscr, Show, Entry, Act, Unlisted}
@@ -41,7 +40,7 @@ use Rattle.runs.proofs.Descriptors.{byteIn, descriptors-stay, write-rep
 use Rattle.runs.proofs.Hold.{hold-exactly}
 use Rattle.runs.proofs.Registers.{commandControl, controlBy, leaves}
 use Rattle.runs.proofs.Tests.{and-l, and-r, or-l, or-r, or-⇒, and-⇒, differs}
-use Rattle.runs.proofs.Undamaged.{undamaged-after, bounded-exactly}
+use Rattle.runs.proofs.Undamaged.{undamaged-after}
 use Rattle.runs.proofs.Wider.{same-wider, raised-wider, replaced-wider, breaks-⇒}
 
 -- MR
