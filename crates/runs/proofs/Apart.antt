@@ -46,7 +46,8 @@ three false b c e = absurd (false≢true e)
 
 row-unlike : (r : Row) → differs r ≡ true → after-two (r .acts) (r .other) ≡ after-two (r .other) (r .acts) → ⊥
 row-unlike r e alike =
-    let t : (eqb (after-two (r .acts) (r .other)) (r .thus) ≡ true) × ((eqb (after-two (r .other) (r .acts)) (r .turned) ≡ true) × (eqb (r .thus) (r .turned) ≡ false)) =
+    let t : (eqb (after-two (r .acts) (r .other)) (r .thus) ≡ true)
+    × ((eqb (after-two (r .other) (r .acts)) (r .turned) ≡ true) × (eqb (r .thus) (r .turned) ≡ false)) =
     three _ _ _ e in
     eqb-false _ _ (t .1 .1) (sym (eqb-true _ _ (t .0)) ∙ alike ∙ eqb-true _ _ (t .1 .0))
 
@@ -63,7 +64,8 @@ rows-unlike x y (r ∷ l) e m alike = go (eqb x (r .acts)) (eqb y (r .other)) re
     go false t f g m later = later m
 
 pub not-exchanged : (x y : ℕ) → among y (apart x) ≡ true → Exchange x y → ⊥
-not-exchanged x y m claim = rows-unlike x y rows each-apart m (ap seen (claim standing (put x) (put y) standing-undamaged (put-writes x) (put-writes y)))
+not-exchanged x y m claim =
+    rows-unlike x y rows each-apart m (ap seen (claim standing (put x) (put y) standing-undamaged (put-writes x) (put-writes y)))
 
 -- Commands that may not be left out
 

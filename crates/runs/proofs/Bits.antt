@@ -73,8 +73,18 @@ module _ (op digit : ℕ → ℕ → ℕ) (step : (a b : ℕ) → op a b ≡ op 
   associative small one none =
       bin-ind (λ (a : ℕ). (b c : ℕ) → op (op a b) c ≡ op a (op b c)) none λ n ih b c.
       let hi : (a b : ℕ) → op a b / 2 ≡ op (a / 2) (b / 2) = λ a b. omega (arith, step a b, small (a % 2) (b % 2) (omega arith) (omega arith)) in
-      let lo : (a b : ℕ) → op a b % 2 ≡ digit (a % 2) (b % 2) = λ a b. omega (arith, step a b, small (a % 2) (b % 2) (omega arith) (omega arith)) in
-      rw (step (op n b) c, step n (op b c), hi n b, hi b c, lo n b, lo b c, ih (b / 2) (c / 2), one (n % 2) (b % 2) (c % 2) (omega arith) (omega arith) (omega arith))
+      let lo : (a b : ℕ) → op a b % 2 ≡ digit (a % 2) (b % 2) = λ a b.
+      omega (arith, step a b, small (a % 2) (b % 2) (omega arith) (omega arith)) in
+      rw (
+        step (op n b) c,
+        step n (op b c),
+        hi n b,
+        hi b c,
+        lo n b,
+        lo b c,
+        ih (b / 2) (c / 2),
+        one (n % 2) (b % 2) (c % 2) (omega arith) (omega arith) (omega arith),
+      )
 
 or-assoc : (a b c : ℕ) → bitOr (bitOr a b) c ≡ bitOr a (bitOr b c)
 or-assoc = associative bitOr max or-step (λ x y h k. omega arith) (λ x y z h k l. omega arith) (λ b c. refl)

@@ -15,6 +15,31 @@ use Rattle.rules.specs.Step.{decided, placeOf, changed, decision, after}
 use Rattle.rules.specs.Runs.{answers, final, units}
 use Rattle.runs.specs.Cycles.{descriptorWrite}
 
+-- refusals, the status and translation
+unfoldable pub statuses : ℕ
+unfolding damaged outOfRange plain refused resetBy acknowledgeByte quieted acknowledged ignored purposeOf byStatus wayOf blockOf linesOf
+statuses = 0
+
+-- checks and recording
+unfoldable pub recordings : ℕ
+unfolding rightsOf outOfLength warns eventOf busStatus firstEntry added raised recorded
+recordings = 0
+
+-- memory cycles
+unfoldable pub memories : ℕ
+unfolding recordings seen resumed aborted begun untranslated touched touchedBy noted checked accessed memory
+memories = 0
+
+-- the bytes of a descriptor
+unfoldable pub entries : ℕ
+unfolding byteOf replaced indexOf nextCounter nextSegment moved writtenBy entry
+entries = 0
+
+-- commands
+unfoldable pub orders : ℕ
+unfolding entries commandOf given controlled programmed cleared restarted acted executed commanded
+orders = 0
+
 unfoldable pub computed : ℕ
-unfolding damaged outOfRange plain refused resetBy acknowledgeByte quieted acknowledged ignored purposeOf byStatus wayOf blockOf linesOf rightsOf outOfLength warns eventOf busStatus firstEntry added raised recorded seen resumed aborted begun untranslated touched touchedBy noted checked accessed memory commandOf byteOf replaced indexOf nextCounter nextSegment moved writtenBy given controlled programmed entry cleared restarted acted executed commanded decided placeOf changed decision after answers final units descriptorWrite
+unfolding statuses memories orders decided placeOf changed decision after answers final units descriptorWrite
 computed = 0

@@ -93,7 +93,8 @@ module _ (r : Registers) (d : Descriptor) (c : Cycle) where
   memory-alters k false way.Passed l = keeps
   memory-alters k false way.Silent l = keeps
 
-  acted-alters : (k : ℕ) (t : Bool) (a : Action) → Alters c d k (t && false) (isActOf 0x15 (Act a)) (isActOf 0x16 (Act a)) false (acted r a .change)
+  acted-alters : (k : ℕ) (t : Bool) (a : Action)
+      → Alters c d k (t && false) (isActOf 0x15 (Act a)) (isActOf 0x16 (Act a)) false (acted r a .change)
   unfolding acted plain
   acted-alters k t SoftwareReset = idle k t false
   acted-alters k t ClearVtr = idle k t false

@@ -209,18 +209,21 @@ dma-leaves-needs = (
 )
 
 -- SAR 64 refuses it, hold in one unit suppresses a CPU cycle there, MR %80 drives an address, and RD in one unit makes it a violation
+whole : Unit
+whole = unitAt 0x80 0 0 0 false none
+
+broken : Unit
+broken = unitAt 0x80 64 0 0 false none
+
+withFlags : (attributes : ℕ) → Unit
+withFlags a = unitWith 0xC0 0 (segment 0 0xFF a)
+
 pub dma-answers-need : DmaAnswersNeed
-unfolding dmaWrite computed
+unfolding dmaWrite whole broken withFlags computed
 dma-answers-need = (
   λ claim. false≢true (ap (λ (l : Lines). l .driven) (claim broken whole (dmaWrite false) (refl, refl, refl, refl) .lines)),
   λ claim. true≢false (ap (λ (l : Lines). l .driven) (claim whole broken (dmaWrite false) (refl, refl, refl, refl) .lines)),
   λ claim. true≢false (claim holding powerOn (cycle false false false 8 0 0) (refl, refl, refl, refl) .sup),
   λ claim. true≢false (ap (λ (l : Lines). l .driven) (claim whole powerOn (dmaWrite false) (refl, refl, refl, refl) .lines)),
-  λ claim. true≢false (claim (unitWith 0xC0 0 (segment 0 0xFF RD)) (unitWith 0xC0 0 (segment 0 0xFF 0)) (dmaWrite false) (refl, refl, refl, refl) .sup),
+  λ claim. true≢false (claim (withFlags RD) (withFlags 0) (dmaWrite false) (refl, refl, refl, refl) .sup),
 )
-  where
-    whole : Unit
-    whole = unitAt 0x80 0 0 0 false none
-
-    broken : Unit
-    broken = unitAt 0x80 64 0 0 false none

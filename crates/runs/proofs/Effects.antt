@@ -163,7 +163,8 @@ no-clash resets a = refl
 pub passes : (e : Effect) (k : Command) (u : Unit) (c : Cycle) → length (u .table) ≡ 64 → c .read ≡ false → clash e k ≡ false
     → done k (does e u) c .unit ≡ does e (done k u c .unit)
 unfolding does executed programmed given controlled entry cleared restarted refused plain changed writtenBy moved indexOf nextCounter replaced
-passes e (Act a) u c h w t = ap left (act-done a (does e u) c) ∙ either e (effect a) u ∙ sym (ap (λ (s : Stepped). does e (left s)) (act-done a u c))
+passes e (Act a) u c h w t =
+    ap left (act-done a (does e u) c) ∙ either e (effect a) u ∙ sym (ap (λ (s : Stepped). does e (left s)) (act-done a u c))
 passes (clears m) Mr u c h w t = refl
 passes (clears m) Sar u c h w t = refl
 passes (clears m) Dscr u c h w t = refl
@@ -176,7 +177,11 @@ passes (raises m) Dscr u c h w t = refl
 passes (raises m) (Show g) u c h w t = refl
 passes (raises m) (Entry Limit) u c h w t =
     let i : ℕ = u .registers .control .sar % 64 in
-    rw (w, at-map (marked m) (u .table) i none (omega (arith, h)), map-set (marked m) (u .table) i (replaced (getD (u .table) i none) 2 (c .byte)))
+    rw (
+      w,
+      at-map (marked m) (u .table) i none (omega (arith, h)),
+      map-set (marked m) (u .table) i (replaced (getD (u .table) i none) 2 (c .byte)),
+    )
 passes (raises m) (Entry Base) u c h w t = absurd (true≢false t)
 passes (raises m) (Entry Attributes) u c h w t = absurd (true≢false t)
 passes (raises m) (Entry Whole) u c h w t = absurd (true≢false t)

@@ -169,7 +169,9 @@ answers-exactly x y h k = (only-alike x y h k, alike x y h k)
     alike : (x y : ℕ) → setOrClear x ≡ true → setOrClear y ≡ true → clearsTrap x ≡ clearsTrap y → SameAnswers x y
     alike x y h k =
         by-action (λ x. clearsTrap x ≡ clearsTrap y → SameAnswers x y)
-        (λ a. by-action (λ y. clearsTrap (codeOf a) ≡ clearsTrap y → SameAnswers (codeOf a) y) (λ b e. same-answers a b (sym (reset-code a) ∙ e ∙ reset-code b)) y k) x h
+        (λ a.
+        by-action (λ y. clearsTrap (codeOf a) ≡ clearsTrap y → SameAnswers (codeOf a) y)
+        (λ b e. same-answers a b (sym (reset-code a) ∙ e ∙ reset-code b)) y k) x h
 
 -- The ticket's laws
 

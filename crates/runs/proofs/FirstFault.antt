@@ -56,7 +56,14 @@ and-kept v m f = by-bit v (bitAnd v m) λ k h e. has-and k v m ∙ rw (e, low-bi
 
 kept-refl : (r : Registers) → FaultKept r r
 kept-refl r =
-    record { flags = (λ e. e, (λ e. e, (λ e. e, (λ e. e, (λ e. e, (λ e. e, refl)))))); vsn = refl; voff = refl; bcsr = refl; isn = refl; ioff = refl }
+    record {
+      flags = (λ e. e, (λ e. e, (λ e. e, (λ e. e, (λ e. e, (λ e. e, refl))))));
+      vsn = refl;
+      voff = refl;
+      bcsr = refl;
+      isn = refl;
+      ioff = refl;
+    }
 
 kept-then : {r s t : Registers} → FaultKept r s → FaultKept s t → FaultKept r t
 kept-then a b =
@@ -156,7 +163,9 @@ first-fault-kept u cs p q = go (u .registers) cs u p (kept-refl (u .registers)) 
 pub flag-needed : FlagNeeded
 unfolding computed units Along
 flag-needed claim =
-    false≢true (ap (λ (n : ℕ). eqb n 0) (claim (unit none (segment 0 0xFF SYS) none) (cycle false false true 8 1 0 ∷ []) refl (refl, refl) .0 .vsn))
+    false≢true
+    (ap (λ (n : ℕ). eqb n 0)
+    (claim (unit none (segment 0 0xFF SYS) none) (cycle false false true 8 1 0 ∷ []) refl (refl, refl) .0 .vsn))
 
 pub each-wipes : EachWipes
 unfolding computed

@@ -114,7 +114,8 @@ hold-by-history cs = (λ h. since (whence cs powerOn h), λ x. stood x)
         ∙ stands-through (x .since) _ (set-by _ (x .cycle) (x .violates)) (x .goesOn)
 
 -- no fetch, and hold stands: a CPU memory cycle is suppressed
-suppressed-on : (u : Unit) (c : Cycle) → holds u ≡ true → endsHold u c ≡ false → (admitted u c && memoryCycle c && cpu c) ⇒ stepped u c .answer .sup
+suppressed-on : (u : Unit) (c : Cycle) → holds u ≡ true → endsHold u c ≡ false
+    → (admitted u c && memoryCycle c && cpu c) ⇒ stepped u c .answer .sup
 suppressed-on u c h e z =
     let starts-not : fetches c ≡ false =
     no-fetch (admitted u c) (c .reset || acknowledge c) (fetches c) (softwareReset c)

@@ -38,7 +38,8 @@ module _ (c : Cycle) (w : tableWrite c ≡ true) where
   other-code : (n : ℕ) → (eqb n 0x01 || onDescriptor n || eqb n 0x20) ≡ false → (selectedCommand c && write c && eqb (c .offset) n) ≡ false
   other-code n f =
       ap (λ (t : Bool). selectedCommand c && write c && t)
-      (differs (λ n. eqb n 0x01 || onDescriptor n || eqb n 0x20) (c .offset) n (and-r (not (outOfRange c) && selectedCommand c && write c) _ w) f)
+      (differs (λ n. eqb n 0x01 || onDescriptor n || eqb n 0x20) (c .offset) n
+      (and-r (not (outOfRange c) && selectedCommand c && write c) _ w) f)
       ∙ and-false (selectedCommand c && write c)
 
   running : c .reset ≡ false

@@ -97,8 +97,12 @@ module _ (r : Registers) (d : Descriptor) (c : Cycle) where
   accessed-leaves : (s : Registers) (l : Lines) → Leaves (accessed s d c l) (s .control) (fails d c && cpu c || s .notes .hold)
   unfolding accessed checked noted
   accessed-leaves s l =
-      let keeps : _ = recorded-leaves s c (eventOf (c .dma) (fails d c) (warns d c (fails d c)) (rightsOf (d .attributes) c) (outOfLength d c)) in
-      record { control = keeps .0; hold = ap (λ (h : Bool). h || (fails d c && cpu c)) (keeps .1) ∙ set-or-stood (s .notes .hold) (fails d c && cpu c) }
+      let rights : ℕ = rightsOf (d .attributes) c in
+      let keeps : _ = recorded-leaves s c (eventOf (c .dma) (fails d c) (warns d c (fails d c)) rights (outOfLength d c)) in
+      record {
+        control = keeps .0;
+        hold = ap (λ (h : Bool). h || (fails d c && cpu c)) (keeps .1) ∙ set-or-stood (s .notes .hold) (fails d c && cpu c);
+      }
 
   memory-leaves : (b : Bool) (w : Way) (l : Lines) → (b ≡ true → fetch c ≡ true)
       → Leaves (memoryBy b w r d c l) (r .control) (not b && isTranslated w && fails d c && cpu c || not (fetch c) && r .notes .hold)

@@ -32,7 +32,8 @@ always P step u cs p =
     along (c ∷ cs) u = (refl, along cs (stepped u c .unit))
 
 -- and it holds after each cycle on the way
-pub throughout : (P : Unit → Type 0) → ((u : Unit) (c : Cycle) → P u → P (stepped u c .unit)) → (u : Unit) (cs : List Cycle) → P u → Every P (units u cs)
+pub throughout : (P : Unit → Type 0) → ((u : Unit) (c : Cycle) → P u → P (stepped u c .unit)) → (u : Unit) (cs : List Cycle) → P u
+    → Every P (units u cs)
 unfolding units
 throughout P step u [] p = refl
 throughout P step u (c ∷ cs) p = (step u c p, throughout P step (stepped u c .unit) cs (step u c p))

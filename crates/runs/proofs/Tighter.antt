@@ -14,7 +14,8 @@ use Rattle.runs.specs.Sequences.{Every, Both}
 use Rattle.runs.specs.Tighter.{Covers, inFirst, before, NoDescriptorWrite, TighterCovers, Demand3, StopInFirst}
 use Rattle.runs.specs.Unstopped.{CoversBut}
 use Rattle.runs.proofs.Tests.{or-l}
-use Rattle.runs.proofs.Unstopped.{Level, level, step-level, hold-step, Abreast, abreast, step-abreast, covers-unstopped, covers-with-writes}
+use Rattle.runs.proofs.Unstopped.{Level, level, step-level, hold-step, covers-unstopped}
+use Rattle.runs.proofs.Unstopped.{Abreast, abreast, step-abreast, covers-with-writes}
 
 none : (cs : List Cycle) (a b : Unit) → Every NoDescriptorWrite cs → AlongBoth WritesNone a b cs
 unfolding AlongBoth

@@ -265,7 +265,8 @@ module _ (a b : Unit) (c : Cycle) (h : Level a b) (x : abortedFetch a c ≡ fals
 
 module _ (Related : Unit → Unit → Type 0) (May : Unit → Unit → Cycle → Type 0) (levels : (a b : Unit) → Related a b → Level a b)
     (step : (a b : Unit) (c : Cycle) → Related a b → May a b c → Related (stepped a c .unit) (stepped b c .unit)) where
-  unstopped : (cs : List Cycle) (so : Bool) (a b : Unit) → Related a b → (so ≡ false → HoldsFirst a b) → AlongBoth May a b cs → CoversBut so a b cs
+  unstopped : (cs : List Cycle) (so : Bool) (a b : Unit) → Related a b → (so ≡ false → HoldsFirst a b)
+      → AlongBoth May a b cs → CoversBut so a b cs
   unfolding CoversBut AlongBoth
   unstopped [] so a b r k f = refl
   unstopped (c ∷ cs) so a b r k f = (
@@ -324,7 +325,8 @@ module _ (a b : Unit) (c : Cycle) (h : Abreast a b) (turns : TurnsNone a b c) wh
         go p q = rw (p, q)
 
     turned : Descriptor → ℕ → Bool
-    turned d s = Bool·beq (has (d .attributes) DIRW) (has (descriptor a s .attributes) DIRW) || eqb (descriptor a s .limit) (descriptor b s .limit)
+    turned d s =
+        Bool·beq (has (d .attributes) DIRW) (has (descriptor a s .attributes) DIRW) || eqb (descriptor a s .limit) (descriptor b s .limit)
 
     put-wider : writesTo a c i ≡ true → Wider (descriptor (stepped a c .unit) i) (descriptor (stepped b c .unit) i)
     unfolding Wider-after turned

@@ -156,11 +156,14 @@ module _ (back wiped : Bool) (c : Cycle) (r : Registers) (d : Descriptor) where
       record {
         shown = refl;
         became =
-            controls (moved (r .control) p c)
-            (λ s. cond-le (steps (c .offset) && eqb (nextCounter p (r .control .dscr)) 0) (omega arith) s, λ s. counter-bounded p (r .control .dscr));
+            controls (moved (r .control) p c) (
+              λ s. cond-le (steps (c .offset) && eqb (nextCounter p (r .control .dscr)) 0) (omega arith) s,
+              λ s. counter-bounded p (r .control .dscr),
+            );
       }
 
-  acted-made : (a : Action) → (isActOf 0x10 (Act a) ≡ true → back ≡ true) → ((isActOf 0x10 (Act a) || isActOf 0x11 (Act a)) ≡ true → wiped ≡ true)
+  acted-made : (a : Action) → (isActOf 0x10 (Act a) ≡ true → back ≡ true)
+      → ((isActOf 0x10 (Act a) || isActOf 0x11 (Act a)) ≡ true → wiped ≡ true)
       → Made back wiped c r (acted r a)
   unfolding acted plain
   acted-made SoftwareReset t z = record { shown = refl; became = restarts 0 (t refl) (z refl) }
@@ -188,7 +191,8 @@ module _ (back wiped : Bool) (c : Cycle) (r : Registers) (d : Descriptor) where
 module _ (c : Cycle) (r : Registers) (d : Descriptor) where
   purpose-made : (p : Purpose) (x y : Bool)
       → Made (isAcknowledge p && x || isCommand p && y && write c && isActOf 0x10 (commandOf (c .offset)))
-      (isCommand p && y && write c && isActOf 0x10 (commandOf (c .offset)) || isCommand p && y && write c && isActOf 0x11 (commandOf (c .offset)))
+      (isCommand p && y && write c && isActOf 0x10 (commandOf (c .offset))
+      || isCommand p && y && write c && isActOf 0x11 (commandOf (c .offset)))
       c r (byPurpose p x y r d c)
   unfolding acknowledged quieted ignored plain commanded memory
   purpose-made purpose.Acknowledge true y = record { shown = refl; became = quiets refl }
