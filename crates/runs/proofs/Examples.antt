@@ -4,9 +4,12 @@ use mathlib.Core.Path.{refl}
 use mathlib.Core.Bool.{Bool, false}
 use mathlib.Core.List.{_∷_}
 use Prim.Native.Nat.{ℕ, zero, suc, _<_}
+use lib.Dec.{lit≤}
 use lib.ListN.{getD, replicate}
+use Rattle.rules.specs.Masks.{RD, CPUI}
 use Rattle.rules.specs.PowerOn.{none, powerOn}
 use Rattle.rules.specs.Refusals.{damaged}
+use Rattle.rules.specs.Rows.{segment}
 use Rattle.rules.specs.declared.Descriptor.{Descriptor}
 use Rattle.rules.specs.declared.Unit.{Unit}
 use Rattle.runs.specs.Tighter.{Wider}
@@ -40,3 +43,23 @@ wider-entries p q s zero h = p
 wider-entries p q s (suc zero) h = q
 wider-entries p q s (suc (suc zero)) h = s
 wider-entries p q s (suc (suc (suc i))) h = wider-refl _
+
+-- segment 1 read-only and writable, segment 2 closed to the CPU
+abbrev pub readOnly : Descriptor
+readOnly = segment 0x1000 0xFF RD
+
+abbrev pub writable : Descriptor
+writable = segment 0x1000 0xFF 0
+
+abbrev pub closed : Descriptor
+closed = segment 0x2000 0xFF CPUI
+
+pub writable-wider : Wider readOnly writable
+writable-wider =
+    record {
+      base = refl;
+      direction = refl;
+      rights = (λ e. refl, (λ e. e, (λ e. e, (λ e. e, (λ e. e, refl)))));
+      up = λ e. lit≤ tt;
+      down = λ e. lit≤ tt;
+    }

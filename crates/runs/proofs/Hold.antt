@@ -7,14 +7,16 @@ use Prim.Native.Nat.{ℕ}
 use lib.Dec.{leb}
 use lib.ListN.{getD}
 use Rattle.rules.specs.Bus.{cpu, fetch}
+use Rattle.rules.specs.Masks.{DMAI}
 use Rattle.rules.specs.PowerOn.{none, powerOn}
+use Rattle.rules.specs.Rows.{segment, cycle, translating}
 use Rattle.rules.specs.Runs.{final}
 use Rattle.rules.specs.Step.{place, after, stepped}
 use Rattle.rules.specs.declared.Cycle.{Cycle}
 use Rattle.rules.specs.declared.Unit.{Unit}
 use Rattle.runs.specs.Answers.{violation, breaks, segmentOf}
 use Rattle.runs.specs.Cycles.{acknowledge, memoryCycle, fetches, softwareReset, translationConditions}
-use Rattle.runs.specs.Hold.{holds, cpuViolation, endsHold, HoldExactly, ViolatedSince, HoldByHistory, SupLasts, EachEndsHold}
+use Rattle.runs.specs.Hold.{holds, cpuViolation, endsHold, HoldExactly, ViolatedSince, HoldByHistory, SupLasts, DmaLastsNot, EachEndsHold}
 use Rattle.runs.specs.Refusal.{admitted}
 use Rattle.runs.specs.Sequences.{_⇒_, Along}
 use Rattle.runs.proofs.Answers.{breaks-exactly, memory-place, where-true, sup-exactly}
@@ -139,6 +141,13 @@ sup-lasts u c cs v e = go cs (stepped u c .unit) (set-by u c v) e
         → Along (λ v d. (admitted v d && memoryCycle d && cpu d) ⇒ stepped v d .answer .sup) v cs
     go [] v h e = refl
     go (d ∷ cs) v h e = (suppressed-on v d h (e .0), go cs (stepped v d .unit) (stands-on v d h (e .0)) (e .1))
+
+-- segment 0 is closed to DMA: the read of DMA is a violation, and the CPU's after it is let through
+pub dma-lasts-not : DmaLastsNot
+unfolding Along computed
+dma-lasts-not claim =
+    false≢true
+    (claim (translating (segment 0 0xFF DMAI)) (cycle true true false 8 0 0) (cycle false true false 8 0 0 ∷ []) refl (refl, refl) .0 refl)
 
 pub each-ends-hold : EachEndsHold
 unfolding computed

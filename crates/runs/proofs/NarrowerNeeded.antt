@@ -2,7 +2,7 @@
 -- Assumes nothing.
 use mathlib.Core.Path.{refl, ap}
 use mathlib.Core.Bool.{Bool, true, false, true≢false, false≢true}
-use mathlib.Core.List.{[], _∷_}
+use mathlib.Core.List.{List, [], _∷_}
 use Prim.Native.Nat.{ℕ}
 use native.Mathlib.Omega.{arith}
 use lib.Dec.{eqb, lit≤, lit<}
@@ -13,12 +13,12 @@ use Rattle.rules.specs.declared.Cycle.{Cycle}
 use Rattle.rules.specs.declared.Descriptor.{Descriptor}
 use Rattle.rules.specs.declared.Lines.{Lines}
 use Rattle.rules.specs.declared.Unit.{Unit}
-use Rattle.runs.specs.Narrower.{AlongBoth, HoldNeeded, MrNeeded, SarNeeded, DscrNeeded, TurnsExcluded}
+use Rattle.runs.specs.Narrower.{Narrower, AlongBoth, HoldNeeded, MrNeeded, SarNeeded, DscrNeeded, TurnsExcluded}
 use Rattle.runs.specs.Tighter.{Wider, before}
 use Rattle.runs.specs.Undamaged.{Undamaged}
-use Rattle.runs.specs.Unstopped.{NarrowedNeeds}
+use Rattle.runs.specs.Unstopped.{CoversBut, InstructionExcepted, NarrowedNeeds}
 use Rattle.runs.proofs.Computed.{computed}
-use Rattle.runs.proofs.Examples.{unitOf, wider-entries}
+use Rattle.runs.proofs.Examples.{unitOf, wider-entries, readOnly, writable, closed, writable-wider}
 use Rattle.runs.proofs.Wider.{wider-refl}
 
 -- a system data write at segment 0, offset 0: record 08000000
@@ -133,6 +133,33 @@ turns-excluded claim =
       dscr = refl;
     })
     (refl, (refl, refl)) .1 .0 .sup refl)
+
+-- With no stop. Segment 1 is read-only in the first unit alone, segment 2 is closed to the CPU in both. After a write to segment 1 the fetch is
+-- aborted in the first unit and suppressed in the second, and so is the read after it, of a segment that is open in both. MR %C0; records
+-- 08010000 1D020000 18000000
+fenced : Descriptor → Unit
+fenced d = unitOf 0xC0 0 0 false none d closed
+
+fenced-narrower : Narrower (fenced readOnly) (fenced writable)
+unfolding fenced computed
+fenced-narrower =
+    record {
+      first = record { size = refl; sound = refl };
+      second = record { size = refl; sound = refl };
+      table = wider-entries (wider-refl _) writable-wider (wider-refl _);
+      mr = refl;
+      hold = λ z. z;
+    }
+
+faultFetchRead : List Cycle
+faultFetchRead = cycle false false false 8 1 0 ∷ cycle false true false 13 2 0 ∷ cycle false true false 8 0 0 ∷ []
+
+pub instruction-excepted : InstructionExcepted
+unfolding fenced faultFetchRead CoversBut AlongBoth computed
+instruction-excepted = (
+  λ claim. false≢true (claim (fenced readOnly) (fenced writable) faultFetchRead fenced-narrower (refl, (refl, (refl, refl))) .2 .1 refl refl),
+  λ claim. false≢true (claim (fenced readOnly) (fenced writable) faultFetchRead fenced-narrower (refl, (refl, (refl, refl))) .2 .2 .1 refl refl),
+)
 
 -- In a running system: a write of %00 changes MR; a write of %09 widens descriptor 0, and the unit as it was is then the tighter
 pub narrowed-needs : NarrowedNeeds

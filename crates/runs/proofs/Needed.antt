@@ -3,7 +3,7 @@
 use mathlib.Core.Path.{_≡_, refl, subst}
 use mathlib.Core.Bool.{Bool, true, false, false≢true}
 use mathlib.Core.List.{List, [], _∷_}
-use Rattle.rules.specs.Masks.{RD, CPUI, DIRW}
+use Rattle.rules.specs.Masks.{DIRW}
 use lib.Dec.{lit≤}
 use Rattle.rules.specs.PowerOn.{none}
 use Rattle.rules.specs.Rows.{segment, cycle, command}
@@ -15,7 +15,7 @@ use Rattle.runs.specs.Sequences.{Both}
 use Rattle.runs.specs.Tighter.{Wider, Loosened, Covers, before, NoDescriptorWrite, TighterCovers, StopNeeded}
 use Rattle.runs.specs.Tighter.{WritesExcluded}
 use Rattle.runs.proofs.Computed.{computed}
-use Rattle.runs.proofs.Examples.{unit, unit-undamaged, wider-entries}
+use Rattle.runs.proofs.Examples.{unit, unit-undamaged, wider-entries, readOnly, writable, closed, writable-wider}
 use Rattle.runs.proofs.Wider.{wider-refl}
 
 unit-loosened : {x y x' y' z : Descriptor} → Wider x x' → Wider y y' → Loosened (unit x y z) (unit x' y' z)
@@ -24,31 +24,11 @@ unit-loosened w v = record { registers = refl; table = wider-entries w v (wider-
 -- The stop. Segment 1 is read-only in the first unit alone, segment 2 is closed to the CPU in both. A write to segment 1 is a violation in
 -- the first unit, whose next fetch is therefore an aborted one, SUP off; the second unit suppresses that fetch.
 
-readOnly : Descriptor
-readOnly = segment 0x1000 0xFF RD
-
-writable : Descriptor
-writable = segment 0x1000 0xFF 0
-
-closed : Descriptor
-closed = segment 0x2000 0xFF CPUI
-
 faultThenFetch : List Cycle
 faultThenFetch = cycle false false false 8 1 0 ∷ cycle false true false 13 2 0 ∷ []
 
-writable-wider : Wider readOnly writable
-unfolding readOnly writable
-writable-wider =
-    record {
-      base = refl;
-      direction = refl;
-      rights = (λ e. refl, (λ e. e, (λ e. e, (λ e. e, (λ e. e, refl)))));
-      up = λ e. lit≤ tt;
-      down = λ e. lit≤ tt;
-    }
-
 pub stop-needed : StopNeeded
-unfolding readOnly writable closed faultThenFetch before computed
+unfolding faultThenFetch before computed
 stop-needed claim = refuted _ claim refl
   where
     first : Unit

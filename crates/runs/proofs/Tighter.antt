@@ -12,7 +12,7 @@ use Rattle.runs.specs.Answers.{abortedFetch}
 use Rattle.runs.specs.Narrower.{WritesNone, AlongBoth, NarrowerKept, InStepKept, NarrowerCovers, WritesCover}
 use Rattle.runs.specs.Sequences.{Every, Both}
 use Rattle.runs.specs.Tighter.{Covers, inFirst, before, NoDescriptorWrite, TighterCovers, Demand3, StopInFirst}
-use Rattle.runs.specs.Unstopped.{CoversBut}
+use Rattle.runs.specs.Unstopped.{ofAborted, CoversBut}
 use Rattle.runs.proofs.Tests.{or-l}
 use Rattle.runs.proofs.Unstopped.{Level, level, step-level, hold-step, covers-unstopped}
 use Rattle.runs.proofs.Unstopped.{Abreast, abreast, step-abreast, covers-with-writes}
@@ -24,12 +24,12 @@ none (c ∷ cs) a b f = (f .0, none cs (stepped a c .unit) (stepped b c .unit) (
 
 -- any stop that comes before an aborted fetch in the first unit
 module _ (stop : Unit → Unit → Cycle → Bool) (stops : (a b : Unit) (c : Cycle) → stop a b c ≡ false → abortedFetch a c ≡ false) where
-  cut : (cs : List Cycle) (a b : Unit) → CoversBut false a b cs → Both Covers (answers a (before stop a b cs)) (answers b (before stop a b cs))
+  cut : (cs : List Cycle) (a b : Unit) → CoversBut ofAborted false a b cs → Both Covers (answers a (before stop a b cs)) (answers b (before stop a b cs))
   unfolding answers before CoversBut
   cut [] a b h = refl
   cut (c ∷ cs) a b h =
       go (stop a b c) refl λ x.
-      cut cs (stepped a c .unit) (stepped b c .unit) (subst (λ (t : Bool). CoversBut t (stepped a c .unit) (stepped b c .unit) cs) x (h .2))
+      cut cs (stepped a c .unit) (stepped b c .unit) (subst (λ (t : Bool). CoversBut ofAborted t (stepped a c .unit) (stepped b c .unit) cs) x (h .2))
     where
       rest : List Cycle
       rest = before stop (stepped a c .unit) (stepped b c .unit) cs

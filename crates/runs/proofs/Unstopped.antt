@@ -266,7 +266,7 @@ module _ (a b : Unit) (c : Cycle) (h : Level a b) (x : abortedFetch a c ≡ fals
 module _ (Related : Unit → Unit → Type 0) (May : Unit → Unit → Cycle → Type 0) (levels : (a b : Unit) → Related a b → Level a b)
     (step : (a b : Unit) (c : Cycle) → Related a b → May a b c → Related (stepped a c .unit) (stepped b c .unit)) where
   unstopped : (cs : List Cycle) (so : Bool) (a b : Unit) → Related a b → (so ≡ false → HoldsFirst a b)
-      → AlongBoth May a b cs → CoversBut so a b cs
+      → AlongBoth May a b cs → CoversBut ofAborted so a b cs
   unfolding CoversBut AlongBoth
   unstopped [] so a b r k f = refl
   unstopped (c ∷ cs) so a b r k f = (

@@ -48,14 +48,22 @@ pub record ViolatedSince (u : Unit) (cs : List Cycle) : Type 0 where
 abbrev pub HoldByHistory : Type 0
 HoldByHistory = (cs : List Cycle) → (holds (final powerOn cs) ≡ true) ↔ ViolatedSince powerOn cs
 
--- CLAIM: after a CPU violation every unrefused CPU memory cycle is suppressed, until the first of the four.
-abbrev pub SupLasts : Type 0
-SupLasts =
+-- after a fault every unrefused CPU memory cycle is suppressed, until the first of the four; which faults is left open
+abbrev pub LastsAfter : (fault : Unit → Cycle → Bool) → Type 0
+LastsAfter fault =
     (u : Unit) (c : Cycle) (cs : List Cycle)
-    → cpuViolation u c ≡ true
+    → fault u c ≡ true
     -- none of the four comes unrefused; all else may, and the four where they are refused
     → Along (λ v d. endsHold v d ≡ false) (stepped u c .unit) cs
     → Along (λ v d. (admitted v d && memoryCycle d && cpu d) ⇒ stepped v d .answer .sup) (stepped u c .unit) cs
+
+-- CLAIM: so it is after a CPU violation.
+abbrev pub SupLasts : Type 0
+SupLasts = LastsAfter cpuViolation
+
+-- CLAIM: not after a violation of DMA: "A DMA violation only turns SUP on for that cycle".
+abbrev pub DmaLastsNot : Type 0
+DmaLastsNot = LastsAfter violation → ⊥
 
 -- a unit whose hold stands, all else as at power-on
 abbrev pub holding : Unit

@@ -36,22 +36,29 @@ MrExactly = (u : Unit) (c : Cycle) → stepped u c .unit .registers .control .mr
 abbrev pub ofAborted : (so : Bool) → Unit → Cycle → Bool
 ofAborted so a c = abortedFetch a c || so && not (endsHold a c)
 
--- at each cycle both units drive the same address, and, but for cycles of such instructions, what the second suppresses the first does too
-unfoldable pub CoversBut : (so : Bool) → Unit → Unit → List Cycle → Type 0
-CoversBut so a b [] = true ≡ true
-CoversBut so a b (c ∷ cs) =
+-- at each cycle both units drive the same address, and, but for the cycles that are excepted, what the second suppresses the first does too
+unfoldable pub CoversBut : (excepted : Bool → Unit → Cycle → Bool) → (so : Bool) → Unit → Unit → List Cycle → Type 0
+CoversBut excepted so a b [] = true ≡ true
+CoversBut excepted so a b (c ∷ cs) =
     (stepped a c .answer .lines ≡ stepped b c .answer .lines)
-    × (ofAborted so a c ≡ false → stepped b c .answer .sup ⇒ stepped a c .answer .sup)
-    × CoversBut (ofAborted so a c) (stepped a c .unit) (stepped b c .unit) cs
+    × (excepted so a c ≡ false → stepped b c .answer .sup ⇒ stepped a c .answer .sup)
+    × CoversBut excepted (excepted so a c) (stepped a c .unit) (stepped b c .unit) cs
 
--- CLAIM: this holds of every run without selected CPU writes of %08 to %0F, with no stop. That the line on SUP needs its exception is
--- `StopNeeded`.
+abbrev pub UnstoppedBut : (excepted : Bool → Unit → Cycle → Bool) → Type 0
+UnstoppedBut excepted = (a b : Unit) (cs : List Cycle) → Narrower a b → AlongBoth WritesNone a b cs → CoversBut excepted false a b cs
+
+-- CLAIM: of every run without selected CPU writes of %08 to %0F, with no stop: the addresses are always the same, and the line on SUP holds at
+-- every cycle but those of an instruction whose fetch the first unit aborted.
 abbrev pub CoversUnstopped : Type 0
-CoversUnstopped = (a b : Unit) (cs : List Cycle) → Narrower a b → AlongBoth WritesNone a b cs → CoversBut false a b cs
+CoversUnstopped = UnstoppedBut ofAborted
+
+-- CLAIM: the aborted fetch is to be excepted, and it is not enough: the cycles after it, of the same instruction, are too.
+abbrev pub InstructionExcepted : Type 0
+InstructionExcepted = (UnstoppedBut (λ so a c. false) → ⊥) × (UnstoppedBut (λ so a c. abortedFetch a c) → ⊥)
 
 -- CLAIM: and with such writes, but for those that turn a descriptor whose limits differ; SAR and DSCR equal at the start.
 abbrev pub CoversWithWrites : Type 0
-CoversWithWrites = (a b : Unit) (cs : List Cycle) → NarrowerInStep a b → AlongBoth TurnsNone a b cs → CoversBut false a b cs
+CoversWithWrites = (a b : Unit) (cs : List Cycle) → NarrowerInStep a b → AlongBoth TurnsNone a b cs → CoversBut ofAborted false a b cs
 
 -- In a running system
 
@@ -80,9 +87,9 @@ NarrowedAndPutBack = AfterWrites TableWrite (λ a b. WiderTable a b × SameSar a
 -- with no writes of %08 to %0F afterwards; or, where SAR and DSCR are put back, with those that turn no descriptor whose limits differ.
 abbrev pub NarrowingOpensNothing : Type 0
 NarrowingOpensNothing =
-    AfterWrites TableWrite WiderTable (λ a b. (cs : List Cycle) → AlongBoth WritesNone a b cs → CoversBut false a b cs)
+    AfterWrites TableWrite WiderTable (λ a b. (cs : List Cycle) → AlongBoth WritesNone a b cs → CoversBut ofAborted false a b cs)
     × AfterWrites TableWrite (λ a b. WiderTable a b × SameSar a b × SameDscr a b)
-    (λ a b. (cs : List Cycle) → AlongBoth TurnsNone a b cs → CoversBut false a b cs)
+    (λ a b. (cs : List Cycle) → AlongBoth TurnsNone a b cs → CoversBut ofAborted false a b cs)
 
 -- CLAIM: neither can be left out: that only such writes come, and that they leave every descriptor as it was or tighter.
 abbrev pub NarrowedNeeds : Type 0
