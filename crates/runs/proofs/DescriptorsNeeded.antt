@@ -5,11 +5,12 @@ use mathlib.Core.Bool.{true, false, false≢true, true≢false}
 use mathlib.Core.List.{[]}
 use Prim.Native.Nat.{ℕ}
 use lib.Dec.{eqb, lit<}
+use Rattle.rules.specs.Masks.{CPUI}
 use Rattle.rules.specs.PowerOn.{powerOn}
-use Rattle.rules.specs.Rows.{cycle, command, translating}
+use Rattle.rules.specs.Rows.{segment, cycle, command, translating}
 use Rattle.rules.specs.declared.Descriptor.{Descriptor}
 use Rattle.rules.specs.declared.Unit.{Unit}
-use Rattle.runs.specs.Descriptors.{EachChanges, HasNeeded, CommandsExcluded}
+use Rattle.runs.specs.Descriptors.{EachChanges, HasNeeded, CommandsExcluded, SuppressedMarksNot}
 use Rattle.runs.proofs.Computed.{computed}
 
 -- a write of %08 puts %01 into descriptor 0, set all CPUI and set all DMAI set their flags there
@@ -37,3 +38,10 @@ pub commands-excluded : CommandsExcluded
 unfolding computed
 commands-excluded claim =
     false≢true (ap (λ (d : Descriptor). eqb (d .base) 0) (claim powerOn (command false 0x08 1) 0 (lit< tt) refl))
+
+-- segment 0 is closed to the CPU
+pub suppressed-marks-not : SuppressedMarksNot
+unfolding computed
+suppressed-marks-not claim =
+    true≢false
+    (ap (λ (d : Descriptor). eqb (d .attributes) CPUI) (claim (translating (segment 0 0xFF CPUI)) (cycle false true false 8 0 0) 0 (lit< tt) refl))

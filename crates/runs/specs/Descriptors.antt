@@ -95,20 +95,22 @@ SetsWhere There =
     → (writesHere 0x15 u c ≡ true → descriptor (stepped u c .unit) i ≡ marked CPUI (descriptor u i))
     × (writesHere 0x16 u c ≡ true → descriptor (stepped u c .unit) i ≡ marked DMAI (descriptor u i))
 
--- "A translated cycle with SUP off, not an aborted fetch"
+-- "A translated cycle [..], not an aborted fetch"
+abbrev pub translated : Unit → Cycle → Bool
+translated u c = admitted u c && memoryCycle c && not (awaited u c) && translationConditions (u .registers .control .mr) c
+
+-- "with SUP off"
 abbrev pub letThrough : Unit → Cycle → Bool
-letThrough u c =
-    admitted u c && memoryCycle c && not (awaited u c) && translationConditions (u .registers .control .mr) c
-    && not (stepped u c .answer .sup)
+letThrough u c = translated u c && not (stepped u c .answer .sup)
 
 -- "sets REF, and CHG too if it writes", in the descriptor of its segment and in no other
-abbrev pub MarksWhere : (May : Cycle → Bool) → (There : Unit → ℕ → Type 0) → Type 0
-MarksWhere May There =
+abbrev pub MarksWhere : (marks : Unit → Cycle → Bool) → (May : Cycle → Bool) → (There : Unit → ℕ → Type 0) → Type 0
+MarksWhere marks May There =
     (u : Unit) (c : Cycle) (i : ℕ)
     → There u i
     → May c ≡ true
     → descriptor (stepped u c .unit) i
-    ≡ cond (letThrough u c && eqb i (c .segment % 64)) (touched (descriptor u i) c) (descriptor u i)
+    ≡ cond (marks u c && eqb i (c .segment % 64)) (touched (descriptor u i) c) (descriptor u i)
 
 abbrev pub noCommand : Cycle → Bool
 noCommand c = not (selectedCommand c)
@@ -124,12 +126,16 @@ SetAllSets = SetsWhere Has
 -- CLAIM: a cycle that is no selected command changes REF and CHG at most, of its own segment's descriptor, only sets them, and only with
 -- SUP off.
 abbrev pub MarksExactly : Type 0
-MarksExactly = MarksWhere noCommand Has
+MarksExactly = MarksWhere letThrough noCommand Has
 
 -- CLAIM: a descriptor that is not there is not changed, so the three claims say nothing of it.
 abbrev pub HasNeeded : Type 0
-HasNeeded = (ReplacesWhere Anywhere → ⊥) × (SetsWhere Anywhere → ⊥) × (MarksWhere noCommand Anywhere → ⊥)
+HasNeeded = (ReplacesWhere Anywhere → ⊥) × (SetsWhere Anywhere → ⊥) × (MarksWhere letThrough noCommand Anywhere → ⊥)
 
 -- CLAIM: a selected command may change more than REF and CHG.
 abbrev pub CommandsExcluded : Type 0
-CommandsExcluded = MarksWhere (λ c. true) Has → ⊥
+CommandsExcluded = MarksWhere letThrough (λ c. true) Has → ⊥
+
+-- CLAIM: a translated cycle that is suppressed leaves REF and CHG.
+abbrev pub SuppressedMarksNot : Type 0
+SuppressedMarksNot = MarksWhere translated noCommand Has → ⊥

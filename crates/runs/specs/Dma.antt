@@ -8,7 +8,7 @@ use Rattle.rules.specs.declared.Answer.{Answer}
 use Rattle.rules.specs.declared.Cycle.{Cycle}
 use Rattle.rules.specs.declared.Unit.{Unit}
 use Rattle.runs.specs.Answers.{segmentOf, SameMr}
-use Rattle.runs.specs.Descriptors.{Has, MarksWhere}
+use Rattle.runs.specs.Descriptors.{Has, letThrough, MarksWhere}
 
 abbrev pub ByDma : Cycle → Type 0
 ByDma c = c .dma ≡ true
@@ -31,7 +31,7 @@ DmaLeavesNeeds = (RegistersStay ByDma → ⊥) × (RegistersStay NoReset → ⊥
 
 -- CLAIM: of the descriptors at most that of its own segment changes, where it is let through: REF is set, and CHG if it writes.
 abbrev pub DmaMarks : Type 0
-DmaMarks = MarksWhere (λ c. c .dma) Has
+DmaMarks = MarksWhere letThrough (λ c. c .dma) Has
 
 -- CLAIM: the trap line shows the request as it stood.
 abbrev pub DmaTrap : Type 0
