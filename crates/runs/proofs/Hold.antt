@@ -9,14 +9,15 @@ use lib.ListN.{getD}
 use Rattle.rules.specs.Bus.{cpu, fetch}
 use Rattle.rules.specs.Masks.{DMAI}
 use Rattle.rules.specs.PowerOn.{none, powerOn}
-use Rattle.rules.specs.Rows.{segment, cycle, translating}
+use Rattle.rules.specs.Rows.{segment, cycle, acknowledge, command, translating}
 use Rattle.rules.specs.Runs.{final}
 use Rattle.rules.specs.Step.{place, after, stepped}
 use Rattle.rules.specs.declared.Cycle.{Cycle}
 use Rattle.rules.specs.declared.Unit.{Unit}
 use Rattle.runs.specs.Answers.{violation, breaks, segmentOf}
-use Rattle.runs.specs.Cycles.{acknowledge, memoryCycle, fetches, softwareReset, translationConditions}
-use Rattle.runs.specs.Hold.{holds, cpuViolation, endsHold, HoldExactly, ViolatedSince, HoldByHistory, SupLasts, DmaLastsNot, EachEndsHold}
+use Rattle.runs.specs.Cycles.{acknowledge as acknowledges, memoryCycle, fetches, softwareReset, translationConditions}
+use Rattle.runs.specs.Hold.{holds, cpuViolation, endsHold, HoldExactly, ViolatedSince, HoldByHistory, HistoryEnds, SupLasts}
+use Rattle.runs.specs.Hold.{DmaLastsNot, EachEndsHold}
 use Rattle.runs.specs.Refusal.{admitted}
 use Rattle.runs.specs.Sequences.{_⇒_, Along}
 use Rattle.runs.proofs.Answers.{breaks-exactly, memory-place, where-true, sup-exactly}
@@ -75,7 +76,7 @@ final-after (c ∷ cs) ds u = final-after cs ds (stepped u c .unit)
 -- hold stood at the start and none of the four came, or a violation came and none of them since
 data Whence (u : Unit) (cs : List Cycle) : Type 0 where
   from-start : holds u ≡ true → Along (λ v c. endsHold v c ≡ false) u cs → Whence u cs
-  from-violation : ViolatedSince u cs → Whence u cs
+  from-violation : ViolatedSince endsHold u cs → Whence u cs
 
 whence : (cs : List Cycle) (u : Unit) → holds (final u cs) ≡ true → Whence u cs
 unfolding final Along
@@ -105,22 +106,37 @@ pub hold-by-history : HoldByHistory
 unfolding final
 hold-by-history cs = (λ h. since (whence cs powerOn h), λ x. stood x)
   where
-    since : Whence powerOn cs → ViolatedSince powerOn cs
+    since : Whence powerOn cs → ViolatedSince endsHold powerOn cs
     since (from-start s a) = absurd (false≢true s)
     since (from-violation x) = x
 
-    stood : ViolatedSince powerOn cs → holds (final powerOn cs) ≡ true
+    stood : ViolatedSince endsHold powerOn cs → holds (final powerOn cs) ≡ true
     stood x =
         ap (λ (l : List Cycle). holds (final powerOn l)) (x .run)
         ∙ ap holds (final-after (x .earlier) (x .cycle ∷ x .since) powerOn)
         ∙ stands-through (x .since) _ (set-by _ (x .cycle) (x .violates)) (x .goesOn)
+
+-- MR %C0, a read past the limit of segment 0, and an acknowledge, which ends hold
+pub history-ends : HistoryEnds
+unfolding Along computed
+history-ends claim =
+    false≢true
+    (claim (command false 0x00 0xC0 ∷ cycle false true false 8 0 1 ∷ acknowledge ∷ []) .1
+    (record {
+      earlier = command false 0x00 0xC0 ∷ [];
+      cycle = cycle false true false 8 0 1;
+      since = acknowledge ∷ [];
+      run = refl;
+      violates = refl;
+      goesOn = (refl, refl);
+    }))
 
 -- no fetch, and hold stands: a CPU memory cycle is suppressed
 suppressed-on : (u : Unit) (c : Cycle) → holds u ≡ true → endsHold u c ≡ false
     → (admitted u c && memoryCycle c && cpu c) ⇒ stepped u c .answer .sup
 suppressed-on u c h e z =
     let starts-not : fetches c ≡ false =
-    no-fetch (admitted u c) (c .reset || acknowledge c) (fetches c) (softwareReset c)
+    no-fetch (admitted u c) (c .reset || acknowledges c) (fetches c) (softwareReset c)
     (and-l (admitted u c) _ (and-l (admitted u c && memoryCycle c) _ z)) e in
     sup-exactly u c ∙ held (violation u c) (admitted u c && memoryCycle c && cpu c) (fetches c) (holds u) z starts-not h
   where

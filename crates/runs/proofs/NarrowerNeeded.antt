@@ -14,11 +14,13 @@ use Rattle.rules.specs.declared.Descriptor.{Descriptor}
 use Rattle.rules.specs.declared.Lines.{Lines}
 use Rattle.rules.specs.declared.Unit.{Unit}
 use Rattle.runs.specs.Narrower.{Narrower, AlongBoth, HoldNeeded, MrNeeded, SarNeeded, DscrNeeded, TurnsExcluded}
+use Rattle.runs.specs.Narrower.{RelationStops}
 use Rattle.runs.specs.Tighter.{Wider, before}
 use Rattle.runs.specs.Undamaged.{Undamaged}
 use Rattle.runs.specs.Unstopped.{CoversBut, InstructionExcepted, NarrowedNeeds}
 use Rattle.runs.proofs.Computed.{computed}
 use Rattle.runs.proofs.Examples.{unitOf, wider-entries, readOnly, writable, closed, writable-wider}
+use Rattle.runs.proofs.Tighter.{narrower-kept}
 use Rattle.runs.proofs.Wider.{wider-refl}
 
 -- a system data write at segment 0, offset 0: record 08000000
@@ -160,6 +162,14 @@ instruction-excepted = (
   λ claim. false≢true (claim (fenced readOnly) (fenced writable) faultFetchRead fenced-narrower (refl, (refl, (refl, refl))) .2 .1 refl refl),
   λ claim. false≢true (claim (fenced readOnly) (fenced writable) faultFetchRead fenced-narrower (refl, (refl, (refl, refl))) .2 .2 .1 refl refl),
 )
+
+-- and the fetch leaves hold in the second unit alone
+pub relation-stops : RelationStops
+unfolding fenced computed
+relation-stops claim =
+    false≢true
+    (claim _ _ (cycle false true false 13 2 0)
+    (narrower-kept (fenced readOnly) (fenced writable) (cycle false false false 8 1 0) fenced-narrower refl refl) refl refl .hold refl)
 
 -- In a running system: a write of %00 changes MR; a write of %09 widens descriptor 0, and the unit as it was is then the tighter
 pub narrowed-needs : NarrowedNeeds

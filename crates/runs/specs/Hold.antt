@@ -34,19 +34,26 @@ endsHold u c = admitted u c && (c .reset || acknowledge c || fetches c || softwa
 abbrev pub HoldExactly : Type 0
 HoldExactly = (u : Unit) (c : Cycle) → holds (stepped u c .unit) ≡ (cpuViolation u c || not (endsHold u c) && holds u)
 
--- a CPU violation came in a run, and none of the four after it
-pub record ViolatedSince (u : Unit) (cs : List Cycle) : Type 0 where
+-- a CPU violation came in a run, and nothing that ends hold after it
+pub record ViolatedSince (ends : Unit → Cycle → Bool) (u : Unit) (cs : List Cycle) : Type 0 where
   pub earlier : List Cycle
   pub cycle : Cycle
   pub since : List Cycle
   pub run : cs ≡ earlier ++ (cycle ∷ since)
   pub violates : cpuViolation (final u earlier) cycle ≡ true
-  pub goesOn : Along (λ v c. endsHold v c ≡ false) (stepped (final u earlier) cycle .unit) since
+  pub goesOn : Along (λ v c. ends v c ≡ false) (stepped (final u earlier) cycle .unit) since
+
+abbrev pub HistoryUntil : (ends : Unit → Cycle → Bool) → Type 0
+HistoryUntil ends = (cs : List Cycle) → (holds (final powerOn cs) ≡ true) ↔ ViolatedSince ends powerOn cs
 
 -- CLAIM: from power-on hold stands exactly if a CPU violation came since the last of the four. With `SupExactly`: for every row of a capture,
 -- why SUP is on.
 abbrev pub HoldByHistory : Type 0
-HoldByHistory = (cs : List Cycle) → (holds (final powerOn cs) ≡ true) ↔ ViolatedSince powerOn cs
+HoldByHistory = HistoryUntil endsHold
+
+-- CLAIM: not exactly if one ever came: hold ends.
+abbrev pub HistoryEnds : Type 0
+HistoryEnds = HistoryUntil (λ u c. false) → ⊥
 
 -- after a fault every unrefused CPU memory cycle is suppressed, until the first of the four; which faults is left open
 abbrev pub LastsAfter : (fault : Unit → Cycle → Bool) → Type 0

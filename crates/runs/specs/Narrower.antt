@@ -1,7 +1,7 @@
 -- Demand 3 from a weaker start, and where writes come too: the relation between the two units that every cycle keeps up to the stop.
 -- Assumes nothing.
 use mathlib.Core.Path.{_≡_}
-use mathlib.Core.Bool.{true, false, _||_, Bool·beq}
+use mathlib.Core.Bool.{Bool, true, false, _||_, Bool·beq}
 use mathlib.Core.List.{List, [], _∷_}
 use Prim.Native.Nat.{ℕ, _<_}
 use lib.Dec.{eqb}
@@ -11,12 +11,12 @@ use Rattle.rules.specs.Runs.{answers}
 use Rattle.rules.specs.Step.{stepped}
 use Rattle.rules.specs.declared.Cycle.{Cycle}
 use Rattle.rules.specs.declared.Unit.{Unit}
-use Rattle.runs.specs.Answers.{abortedFetch, SameMr}
+use Rattle.runs.specs.Answers.{SameMr}
 use Rattle.runs.specs.Cycles.{descriptorWrite}
 use Rattle.runs.specs.Descriptors.{descriptor}
 use Rattle.runs.specs.Hold.{holds}
 use Rattle.runs.specs.Sequences.{_⇒_, Both}
-use Rattle.runs.specs.Tighter.{Wider, Covers, inFirst, before, NoDescriptorWrite}
+use Rattle.runs.specs.Tighter.{Wider, Covers, inFirst, nowhere, before, NoDescriptorWrite}
 use Rattle.runs.specs.Undamaged.{Undamaged}
 
 -- each descriptor of b is as wide as a's or wider
@@ -65,10 +65,10 @@ unfoldable pub AlongBoth : (May : Unit → Unit → Cycle → Type 0) → Unit �
 AlongBoth May a b [] = true ≡ true
 AlongBoth May a b (c ∷ cs) = May a b c × AlongBoth May (stepped a c .unit) (stepped b c .unit) cs
 
--- a relation is kept by every cycle up to the stop, an aborted fetch of the first unit, with the cycles that may come left open
-abbrev pub KeptBy : (May : Unit → Unit → Cycle → Type 0) → (Related : Unit → Unit → Type 0) → Type 0
-KeptBy May Related =
-    (a b : Unit) (c : Cycle) → Related a b → May a b c → abortedFetch a c ≡ false → Related (stepped a c .unit) (stepped b c .unit)
+-- a relation is kept by every cycle up to a stop, with the stop and the cycles that may come left open
+abbrev pub KeptUpTo : (stop : Unit → Unit → Cycle → Bool) → (May : Unit → Unit → Cycle → Type 0) → (Related : Unit → Unit → Type 0) → Type 0
+KeptUpTo stop May Related =
+    (a b : Unit) (c : Cycle) → Related a b → May a b c → stop a b c ≡ false → Related (stepped a c .unit) (stepped b c .unit)
 
 -- demand 3's conclusion up to the stop, with the start and the cycles that may come left open
 abbrev pub CoversFrom : (May : Unit → Unit → Cycle → Type 0) → (Start : Unit → Unit → Type 0) → Type 0
@@ -78,13 +78,13 @@ CoversFrom May Start =
     → AlongBoth May a b cs
     → Both Covers (answers a (before inFirst a b cs)) (answers b (before inFirst a b cs))
 
--- CLAIM: without writes to descriptors every cycle up to the stop keeps the relation, SAR and DSCR free.
+-- CLAIM: without writes to descriptors every cycle up to the stop, an aborted fetch of the first unit, keeps the relation, SAR and DSCR free.
 abbrev pub NarrowerKept : Type 0
-NarrowerKept = KeptBy WritesNone Narrower
+NarrowerKept = KeptUpTo inFirst WritesNone Narrower
 
 -- CLAIM: with writes that turn no descriptor whose limits differ, it is kept where SAR and DSCR are equal, and these stay equal.
 abbrev pub InStepKept : Type 0
-InStepKept = KeptBy TurnsNone NarrowerInStep
+InStepKept = KeptUpTo inFirst TurnsNone NarrowerInStep
 
 -- CLAIM: so the tables tightened, MR equal and hold ordered are enough for demand 3's conclusion.
 abbrev pub NarrowerCovers : Type 0
@@ -99,6 +99,10 @@ WritesCover = CoversFrom TurnsNone NarrowerInStep
 -- two undamaged units, the tables tightened, and what else is said
 abbrev pub Tightened : (Unit → Unit → Type 0) → Unit → Unit → Type 0
 Tightened Else a b = Undamaged a × Undamaged b × WiderTable a b × Else a b
+
+-- CLAIM: the stop: the aborted fetch clears hold in the first unit alone.
+abbrev pub RelationStops : Type 0
+RelationStops = KeptUpTo nowhere WritesNone Narrower → ⊥
 
 -- CLAIM: hold's order, and equal MRs, each.
 abbrev pub HoldNeeded : Type 0
