@@ -90,6 +90,10 @@ lines-way mr base c =
 
 -- One walk
 
+-- a cycle that is checked violates; `breaks-exactly` says it flag by flag
+abbrev pub fails : Descriptor → Cycle → Bool
+fails d c = violates (rightsOf (d .attributes) c) (outOfLength d c)
+
 -- a decision from the registers r with this kind is the refusal of a number, or none
 pub data Judged (r : Registers) (x : Decision) : Kind → Type 0 where
   refuses : (n : ℕ) → x ≡ refused n r → Judged r x (kind.Refused n)
@@ -104,7 +108,7 @@ pub record Says (r : Registers) (x : Decision) (k : Kind) (l : Lines) (s : Bool)
 module _ (r : Registers) (d : Descriptor) (c : Cycle) where
   memory-says : (b : Bool) (w : Way) (l : Lines)
       → Says r (memoryBy b w r d c l) (kindBy none false false false true b (isTranslated w) (isPassed w)) l
-      (not b && (isTranslated w && violates (rightsOf (d .attributes) c) (outOfLength d c) || cpu c && (r .notes .hold && not (fetch c))))
+      (not b && (isTranslated w && fails d c || cpu c && (r .notes .hold && not (fetch c))))
   unfolding aborted seen untranslated begun accessed checked
   memory-says true w l = record { kind = refl; lines = refl; sup = refl; left = accepts refl }
   memory-says false way.Translated l = record { kind = refl; lines = refl; sup = refl; left = accepts refl }
@@ -148,7 +152,7 @@ module _ (r : Registers) (d : Descriptor) (c : Cycle) where
   pub supHere : Bool
   supHere =
       not (aborts r c)
-      && (isTranslated wayHere && violates (rightsOf (d .attributes) c) (outOfLength d c) || cpu c && (r .notes .hold && not (fetch c)))
+      && (isTranslated wayHere && fails d c || cpu c && (r .notes .hold && not (fetch c)))
 
   purpose-says : (p : Purpose) (x y : Bool)
       → Says r (byPurpose p x y r d c)
@@ -274,7 +278,7 @@ address-exactly u c =
 -- SUP
 
 -- the flags of the rights byte, one by one
-pub breaks-exactly : (d : Descriptor) (c : Cycle) → violates (rightsOf (d .attributes) c) (outOfLength d c) ≡ breaks d c
+pub breaks-exactly : (d : Descriptor) (c : Cycle) → fails d c ≡ breaks d c
 unfolding rightsOf outOfLength
 breaks-exactly d c =
     let a : ℕ = d .attributes in

@@ -43,11 +43,10 @@ use Rattle.runs.specs.Descriptors.{descriptor, writesTo, writesHere, Sam
 use Rattle.runs.specs.Descriptors.{byteAt, letThrough, WriteReplaces, SetAllSets, MarksExactly}
 use Rattle.runs.specs.Refusal.{admitted}
 use Rattle.runs.specs.Sequences.{Every, Along}
-use Rattle.runs.proofs.Answers.{memory-place}
+use Rattle.runs.proofs.Answers.{fails, memory-place}
 use Rattle.runs.proofs.Codes.{isEntry, isActOf, isAtByte, entry-codes, cpui-code, dmai-code, limit-codes, attributes-codes}
 use Rattle.runs.proofs.Looks.{conditions-way}
 use Rattle.runs.proofs.Purposes.{isCommand, isMemory, command-status, memory-status}
-use Rattle.runs.proofs.Registers.{fails}
 use Rattle.runs.proofs.Tables.{set-at, at-map}
 use Rattle.runs.proofs.Tests.{and-l, and-r, or-l, or-r}
 use Rattle.runs.proofs.Undamaged.{bounded-exactly}

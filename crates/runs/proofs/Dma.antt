@@ -30,10 +30,9 @@ use Rattle.runs.specs.Cycles.{selectedCommand, acknowledge, memoryCycle,
 use Rattle.runs.specs.Dma.{SameSegment, DmaLeaves, DmaLeavesNeeds, DmaMarks, DmaTrap, DmaAnswers, DmaAnswersNeed}
 use Rattle.runs.specs.Hold.{holding}
 use Rattle.runs.specs.Refusal.{earliest, unlisted, wrongWay, admitted}
-use Rattle.runs.proofs.Answers.{kind-exactly, address-exactly, sup-exactly}
+use Rattle.runs.proofs.Answers.{fails, kind-exactly, address-exactly, sup-exactly}
 use Rattle.runs.proofs.Computed.{computed}
 use Rattle.runs.proofs.Descriptors.{marks-exactly}
-use Rattle.runs.proofs.Registers.{fails}
 use Rattle.runs.proofs.Trap.{trap-shows}
 use Rattle.rules.specs.declared.Purpose.the-variants as purpose
 use Rattle.rules.specs.declared.Way.the-variants as way

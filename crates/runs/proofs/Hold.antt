@@ -14,9 +14,10 @@ use Rattle.rules.specs.Runs.{final}
 use Rattle.rules.specs.Step.{place, after, stepped}
 use Rattle.rules.specs.declared.Cycle.{Cycle}
 use Rattle.rules.specs.declared.Unit.{Unit}
-use Rattle.runs.specs.Answers.{violation, breaks, segmentOf}
+use Rattle.runs.specs.Answers.{violation, heldBack, breaks, segmentOf}
 use Rattle.runs.specs.Cycles.{acknowledge as acknowledges, memoryCycle, fetches, softwareReset, translationConditions}
 use Rattle.runs.specs.Hold.{holds, cpuViolation, endsHold, HoldExactly, ViolatedSince, HoldByHistory, HistoryEnds, SupLasts}
+use Rattle.runs.specs.Hold.{Why, violatesNow, violatedBefore, SupByHistory}
 use Rattle.runs.specs.Hold.{DmaLastsNot, EachEndsHold}
 use Rattle.runs.specs.Refusal.{admitted}
 use Rattle.runs.specs.Sequences.{_⇒_, Along}
@@ -115,6 +116,27 @@ hold-by-history cs = (λ h. since (whence cs powerOn h), λ x. stood x)
         ap (λ (l : List Cycle). holds (final powerOn l)) (x .run)
         ∙ ap holds (final-after (x .earlier) (x .cycle ∷ x .since) powerOn)
         ∙ stands-through (x .since) _ (set-by _ (x .cycle) (x .violates)) (x .goesOn)
+
+pub sup-by-history : SupByHistory
+sup-by-history cs c = (λ e. why (violation u c) refl (sym (sup-exactly u c) ∙ e), sup)
+  where
+    u : Unit
+    u = final powerOn cs
+
+    reaches : Bool
+    reaches = admitted u c && memoryCycle c && cpu c && not (fetches c)
+
+    why : (v : Bool) → violation u c ≡ v → (v || heldBack u c) ≡ true → Why cs c
+    why true q e = violatesNow q
+    why false q e = violatedBefore (and-l reaches _ e) (hold-by-history cs .0 (and-r reaches _ e))
+
+    both : (p q : Bool) → p ≡ true → q ≡ true → (p && q) ≡ true
+    both p q x y = rw (x, y)
+
+    sup : Why cs c → stepped u c .answer .sup ≡ true
+    sup (violatesNow v) = sup-exactly u c ∙ ap (λ (t : Bool). t || heldBack u c) v
+    sup (violatedBefore r s) =
+        sup-exactly u c ∙ ap (λ (t : Bool). violation u c || t) (both reaches (holds u) r (hold-by-history cs .1 s)) ∙ or-true (violation u c)
 
 -- MR %C0, a read past the limit of segment 0, and an acknowledge, which ends hold
 pub history-ends : HistoryEnds

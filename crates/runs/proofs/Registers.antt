@@ -8,7 +8,7 @@ use lib.ListN.{getD}
 use borrow.Author.Tests.{eqb-true}
 use Rattle.rules.proofs.Blind.{isTranslated}
 use Rattle.rules.specs.Bus.{cpu, write, fetch}
-use Rattle.rules.specs.Checks.{rightsOf, outOfLength, violates, warns}
+use Rattle.rules.specs.Checks.{rightsOf, outOfLength, warns}
 use Rattle.rules.specs.PowerOn.{none}
 use Rattle.rules.specs.Refusals.{damaged, outOfRange, plain, refused}
 use Rattle.rules.specs.Status.{resetBy, quieted, acknowledged, ignored, purposeOf, byPurpose, byStatus}
@@ -32,6 +32,7 @@ use Rattle.rules.specs.declared.Purpose.{Purpose}
 use Rattle.rules.specs.declared.Registers.{Registers}
 use Rattle.rules.specs.declared.Unit.{Unit}
 use Rattle.rules.specs.declared.Way.{Way}
+use Rattle.runs.proofs.Answers.{fails}
 use Rattle.runs.proofs.Codes.{isSoftwareReset, software-reset-code}
 use Rattle.runs.proofs.Purposes.{isCommand, isAcknowledge, isMemory, command-status, acknowledge-status, memory-status}
 use Rattle.runs.proofs.Tests.{and-l, and-r}
@@ -65,10 +66,6 @@ controlBy false true reset command c k = k
 controlBy false false true command c k = record { mr = cond (c .select) 128 0; sar = k .sar; dscr = 0 }
 controlBy false false false true c k = commandControl (commandOf (c .offset)) (c .read) c k
 controlBy false false false false c k = k
-
--- a cycle that is checked is a violation; `Answers` says it flag by flag
-abbrev pub fails : Descriptor → Cycle → Bool
-fails d c = violates (rightsOf (d .attributes) c) (outOfLength d c)
 
 pub record Leaves (x : Decision) (k : Control) (h : Bool) : Type 0 where
   pub control : x .registers .control ≡ k

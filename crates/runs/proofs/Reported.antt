@@ -35,12 +35,11 @@ use Rattle.runs.specs.Cycles.{memoryCycle, translationConditions}
 use Rattle.runs.specs.Refusal.{admitted}
 use Rattle.runs.specs.Reported.{faulted, OwnRequests, ViolationReported, OwnRequestsKept, ReportedFromPowerOn, OwnNeeded, FatlSilent}
 use Rattle.runs.specs.Sequences.{_⇒_}
-use Rattle.runs.proofs.Answers.{breaks-exactly, memory-place}
+use Rattle.runs.proofs.Answers.{fails, breaks-exactly, memory-place}
 use Rattle.runs.proofs.Bits.{or-if, or-none, lacks-or, lacks-small}
 use Rattle.runs.proofs.Computed.{computed}
 use Rattle.runs.proofs.Looks.{conditions-way}
 use Rattle.runs.proofs.Purposes.{isMemory, memory-status}
-use Rattle.runs.proofs.Registers.{fails}
 use Rattle.runs.proofs.Runs.{always}
 use Rattle.runs.proofs.Tests.{and-l, and-r}
 use Rattle.runs.proofs.Ways.{Became, stayed, controls, empties, clears, restarts, quiets, resumes, begins}

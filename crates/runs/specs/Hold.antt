@@ -46,14 +46,23 @@ pub record ViolatedSince (ends : Unit → Cycle → Bool) (u : Unit) (cs : List 
 abbrev pub HistoryUntil : (ends : Unit → Cycle → Bool) → Type 0
 HistoryUntil ends = (cs : List Cycle) → (holds (final powerOn cs) ≡ true) ↔ ViolatedSince ends powerOn cs
 
--- CLAIM: from power-on hold stands exactly if a CPU violation came since the last of the four. With `SupExactly`: for every row of a capture,
--- why SUP is on.
+-- CLAIM: from power-on hold stands exactly if a CPU violation came since the last of the four.
 abbrev pub HoldByHistory : Type 0
 HoldByHistory = HistoryUntil endsHold
 
 -- CLAIM: not exactly if one ever came: hold ends.
 abbrev pub HistoryEnds : Type 0
 HistoryEnds = HistoryUntil (λ u c. false) → ⊥
+
+-- why SUP is on in a cycle, after others from power-on: this cycle violates, or it is an unrefused CPU memory cycle, no fetch, and a CPU
+-- violation came since the last of the four
+pub data Why (cs : List Cycle) (c : Cycle) : Type 0 where
+  violatesNow : violation (final powerOn cs) c ≡ true → Why cs c
+  violatedBefore : (admitted (final powerOn cs) c && memoryCycle c && cpu c && not (fetches c)) ≡ true → ViolatedSince endsHold powerOn cs → Why cs c
+
+-- CLAIM: for every row of a capture, SUP is on exactly for one of these two causes.
+abbrev pub SupByHistory : Type 0
+SupByHistory = (cs : List Cycle) (c : Cycle) → (stepped (final powerOn cs) c .answer .sup ≡ true) ↔ Why cs c
 
 -- after a fault every unrefused CPU memory cycle is suppressed, until the first of the four; which faults is left open
 abbrev pub LastsAfter : (fault : Unit → Cycle → Bool) → Type 0
