@@ -14,12 +14,12 @@ use Rattle.rules.specs.declared.Descriptor.{Descriptor}
 use Rattle.rules.specs.declared.Lines.{Lines}
 use Rattle.rules.specs.declared.Unit.{Unit}
 use Rattle.runs.specs.Narrower.{Narrower, AlongBoth, HoldNeeded, MrNeeded, SarNeeded, DscrNeeded, TurnsExcluded}
-use Rattle.runs.specs.Narrower.{RelationStops}
+use Rattle.runs.specs.Narrower.{RelationStops, UndamagedNeeded, TablesNeeded}
 use Rattle.runs.specs.Tighter.{Wider, before}
 use Rattle.runs.specs.Undamaged.{Undamaged}
 use Rattle.runs.specs.Unstopped.{CoversBut, InstructionExcepted, NarrowedNeeds}
 use Rattle.runs.proofs.Computed.{computed}
-use Rattle.runs.proofs.Examples.{unitOf, wider-entries, readOnly, writable, closed, writable-wider}
+use Rattle.runs.proofs.Examples.{unitOf, unit, unit-undamaged, wider-entries, readOnly, writable, closed, writable-wider}
 use Rattle.runs.proofs.Tighter.{narrower-kept}
 use Rattle.runs.proofs.Wider.{wider-refl}
 
@@ -51,6 +51,31 @@ mr-needed claim =
     (ap (λ (l : Lines). l .driven)
     (claim (held 0x00 false) (held 0x80 false) (dataWrite ∷ []) (held-undamaged _ _, held-undamaged _ _, λ i s. wider-refl _, λ z. z)
     (refl, refl) .0 .lines))
+
+-- MR %80: SAR 64 makes the one unit or the other refuse it, and no address is driven there
+broken : Unit
+broken = unitOf 0x80 64 0 false none none none
+
+pub undamaged-needed : UndamagedNeeded
+unfolding dataWrite held broken before AlongBoth computed
+undamaged-needed = (
+  λ claim.
+      false≢true
+      (ap (λ (l : Lines). l .driven)
+      (claim broken (held 0x80 false) (dataWrite ∷ []) (held-undamaged _ _, λ i s. wider-refl _, refl, λ z. z) (refl, refl) .0 .lines)),
+  λ claim.
+      true≢false
+      (ap (λ (l : Lines). l .driven)
+      (claim (held 0x80 false) broken (dataWrite ∷ []) (held-undamaged _ _, λ i s. wider-refl _, refl, λ z. z) (refl, refl) .0 .lines)),
+)
+
+-- MR %C0: segment 0 is read-only in the second unit alone
+pub tables-needed : TablesNeeded
+unfolding dataWrite before AlongBoth computed
+tables-needed claim =
+    false≢true
+    (claim (unit writable none none) (unit readOnly none none) (dataWrite ∷ []) (unit-undamaged _ _ _, unit-undamaged _ _ _, refl, λ z. z)
+    (refl, refl) .0 .sup refl)
 
 -- SAR 0 and 2, MR %E0, segment 2 at %FFF0 in both: %0C writes %00 to the base at SAR, which is segment 2's in the second unit alone. Records
 -- 83000C00 08420000

@@ -96,20 +96,24 @@ WritesCover = CoversFrom TurnsNone NarrowerInStep
 
 -- What can't be left out
 
--- two undamaged units, the tables tightened, and what else is said
-abbrev pub Tightened : (Unit → Unit → Type 0) → Unit → Unit → Type 0
-Tightened Else a b = Undamaged a × Undamaged b × WiderTable a b × Else a b
-
 -- CLAIM: the stop: the aborted fetch clears hold in the first unit alone.
 abbrev pub RelationStops : Type 0
 RelationStops = KeptUpTo nowhere WritesNone Narrower → ⊥
 
--- CLAIM: hold's order, and equal MRs, each.
-abbrev pub HoldNeeded : Type 0
-HoldNeeded = CoversFrom WritesNone (Tightened SameMr) → ⊥
+-- CLAIM: each part of `Narrower`: two undamaged units, the tables tightened, equal MRs, hold's order.
+abbrev pub UndamagedNeeded : Type 0
+UndamagedNeeded =
+    (CoversFrom WritesNone (λ a b. Undamaged b × WiderTable a b × SameMr a b × HoldsFirst a b) → ⊥)
+    × (CoversFrom WritesNone (λ a b. Undamaged a × WiderTable a b × SameMr a b × HoldsFirst a b) → ⊥)
+
+abbrev pub TablesNeeded : Type 0
+TablesNeeded = CoversFrom WritesNone (λ a b. Undamaged a × Undamaged b × SameMr a b × HoldsFirst a b) → ⊥
 
 abbrev pub MrNeeded : Type 0
-MrNeeded = CoversFrom WritesNone (Tightened HoldsFirst) → ⊥
+MrNeeded = CoversFrom WritesNone (λ a b. Undamaged a × Undamaged b × WiderTable a b × HoldsFirst a b) → ⊥
+
+abbrev pub HoldNeeded : Type 0
+HoldNeeded = CoversFrom WritesNone (λ a b. Undamaged a × Undamaged b × WiderTable a b × SameMr a b) → ⊥
 
 -- CLAIM: where writes come, equal SARs, and equal DSCRs, each.
 abbrev pub SarNeeded : Type 0
