@@ -23,6 +23,34 @@ use Rattle.runs.specs.Tighter.{Wider}
 use Rattle.runs.proofs.Bits.{has-or}
 use Rattle.runs.proofs.Tests.{or-⇒, and-⇒, ltb-⇒, at}
 
+-- Checks
+
+six-⇒ : (a b c d e f a' b' c' d' e' f' : Bool) → a ⇒ a' → b ⇒ b' → c ⇒ c' → d ⇒ d' → e ⇒ e' → f ⇒ f'
+    → (a || b || c || d || e || f) ⇒ (a' || b' || c' || d' || e' || f')
+six-⇒ a b c d e f a' b' c' d' e' f' p q r s t u =
+    or-⇒ (a || b || c || d || e) (a' || b' || c' || d' || e') f f'
+    (or-⇒ (a || b || c || d) (a' || b' || c' || d') e e'
+    (or-⇒ (a || b || c) (a' || b' || c') d d' (or-⇒ (a || b) (a' || b') c c' (or-⇒ a a' b b' p q) r) s) t) u
+
+beyond-⇒ : (t s : Bool) (l m o : ℕ) → t ≡ s → (t ≡ false → l ≤ m) → (t ≡ true → m ≤ l) → cond s (ltb o m) (ltb m o) ⇒ cond t (ltb o l) (ltb l o)
+beyond-⇒ false false l m o q up down = ltb-⇒ m o l o λ h. omega (arith, up refl)
+beyond-⇒ true true l m o q up down = ltb-⇒ o m o l λ h. omega (arith, down refl)
+beyond-⇒ false true l m o q up down = absurd (false≢true q)
+beyond-⇒ true false l m o q up down = absurd (true≢false q)
+
+-- a rule of the wider that is broken is one of the tighter
+pub breaks-⇒ : {x y : Descriptor} (c : Cycle) → Wider x y → breaks y c ⇒ breaks x c
+breaks-⇒ {x} {y} c w =
+    let a : ℕ = x .attributes in
+    let b : ℕ = y .attributes in
+    six-⇒ (has b RD && write c) (has b SYS && c .normal) (has b EXC && not (program c))
+    (cond (has b DIRW) (ltb (c .offset) (y .limit)) (ltb (y .limit) (c .offset))) (has b CPUI && cpu c) (has b DMAI && c .dma)
+    (has a RD && write c) (has a SYS && c .normal) (has a EXC && not (program c))
+    (cond (has a DIRW) (ltb (c .offset) (x .limit)) (ltb (x .limit) (c .offset))) (has a CPUI && cpu c) (has a DMAI && c .dma)
+    (and-⇒ _ _ (write c) (w .rights .0)) (and-⇒ _ _ (c .normal) (w .rights .1 .0)) (and-⇒ _ _ (not (program c)) (w .rights .1 .1 .1 .0))
+    (beyond-⇒ (has a DIRW) (has b DIRW) (x .limit) (y .limit) (c .offset) (w .direction) (w .up) (w .down))
+    (and-⇒ _ _ (cpu c) (w .rights .1 .1 .0)) (and-⇒ _ _ (c .dma) (w .rights .1 .1 .1 .1 .0))
+
 -- The five protection flags are the masks of bits 0 to 4
 
 at-bit : (P : ℕ → Type 0) → Every P (RD ∷ SYS ∷ CPUI ∷ EXC ∷ DMAI ∷ []) → (k : ℕ) → k < 5 → P (2 ^ k)
@@ -166,31 +194,3 @@ replaced-wider k b x y w = go (eqb k 0) (eqb k 1) (eqb k 2)
           up = up (has (x .attributes) DIRW) (has b DIRW) (w .up) h;
           down = down (has (x .attributes) DIRW) (has b DIRW) (w .down) h;
         }
-
--- Checks
-
-six-⇒ : (a b c d e f a' b' c' d' e' f' : Bool) → a ⇒ a' → b ⇒ b' → c ⇒ c' → d ⇒ d' → e ⇒ e' → f ⇒ f'
-    → (a || b || c || d || e || f) ⇒ (a' || b' || c' || d' || e' || f')
-six-⇒ a b c d e f a' b' c' d' e' f' p q r s t u =
-    or-⇒ (a || b || c || d || e) (a' || b' || c' || d' || e') f f'
-    (or-⇒ (a || b || c || d) (a' || b' || c' || d') e e'
-    (or-⇒ (a || b || c) (a' || b' || c') d d' (or-⇒ (a || b) (a' || b') c c' (or-⇒ a a' b b' p q) r) s) t) u
-
-beyond-⇒ : (t s : Bool) (l m o : ℕ) → t ≡ s → (t ≡ false → l ≤ m) → (t ≡ true → m ≤ l) → cond s (ltb o m) (ltb m o) ⇒ cond t (ltb o l) (ltb l o)
-beyond-⇒ false false l m o q up down = ltb-⇒ m o l o λ h. omega (arith, up refl)
-beyond-⇒ true true l m o q up down = ltb-⇒ o m o l λ h. omega (arith, down refl)
-beyond-⇒ false true l m o q up down = absurd (false≢true q)
-beyond-⇒ true false l m o q up down = absurd (true≢false q)
-
--- a rule of the wider that is broken is one of the tighter
-pub breaks-⇒ : {x y : Descriptor} (c : Cycle) → Wider x y → breaks y c ⇒ breaks x c
-breaks-⇒ {x} {y} c w =
-    let a : ℕ = x .attributes in
-    let b : ℕ = y .attributes in
-    six-⇒ (has b RD && write c) (has b SYS && c .normal) (has b EXC && not (program c))
-    (cond (has b DIRW) (ltb (c .offset) (y .limit)) (ltb (y .limit) (c .offset))) (has b CPUI && cpu c) (has b DMAI && c .dma)
-    (has a RD && write c) (has a SYS && c .normal) (has a EXC && not (program c))
-    (cond (has a DIRW) (ltb (c .offset) (x .limit)) (ltb (x .limit) (c .offset))) (has a CPUI && cpu c) (has a DMAI && c .dma)
-    (and-⇒ _ _ (write c) (w .rights .0)) (and-⇒ _ _ (c .normal) (w .rights .1 .0)) (and-⇒ _ _ (not (program c)) (w .rights .1 .1 .1 .0))
-    (beyond-⇒ (has a DIRW) (has b DIRW) (x .limit) (y .limit) (c .offset) (w .direction) (w .up) (w .down))
-    (and-⇒ _ _ (cpu c) (w .rights .1 .1 .0)) (and-⇒ _ _ (c .dma) (w .rights .1 .1 .1 .1 .0))
