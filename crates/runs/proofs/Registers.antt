@@ -1,7 +1,7 @@
 -- What a cycle leaves of MR, SAR, DSCR and hold: one walk over every decision.
 -- Assumes nothing.
 use mathlib.Core.Path.{_≡_, refl, sym, _∙_, ap}
-use mathlib.Core.Bool.{Bool, true, false, cond, not, _&&_, _||_}
+use mathlib.Core.Bool.{Bool, true, false, cond, not, _&&_, _||_, and-comm, or-comm, and-false, or-false}
 use Prim.Native.Nat.{ℕ, _%_}
 use lib.Dec.{eqb, leb}
 use lib.ListN.{getD}
@@ -79,18 +79,6 @@ recorded-leaves r c e =
     (λ flag p. (refl, refl))
 
 module _ (r : Registers) (d : Descriptor) (c : Cycle) where
-  set-or-stood : (h v : Bool) → (h || v) ≡ (v || h)
-  set-or-stood true true = refl
-  set-or-stood true false = refl
-  set-or-stood false true = refl
-  set-or-stood false false = refl
-
-  stood : (h f : Bool) → (h && not f) ≡ (not f && h)
-  stood true true = refl
-  stood true false = refl
-  stood false true = refl
-  stood false false = refl
-
   accessed-leaves : (s : Registers) (l : Lines) → Leaves (accessed s d c l) (s .control) (fails d c && cpu c || s .notes .hold)
   unfolding accessed checked noted
   accessed-leaves s l =
@@ -98,7 +86,7 @@ module _ (r : Registers) (d : Descriptor) (c : Cycle) where
       let keeps : _ = recorded-leaves s c (eventOf (c .dma) (fails d c) (warns d c (fails d c)) rights (outOfLength d c)) in
       record {
         control = keeps .0;
-        hold = ap (λ (h : Bool). h || (fails d c && cpu c)) (keeps .1) ∙ set-or-stood (s .notes .hold) (fails d c && cpu c);
+        hold = ap (λ (h : Bool). h || (fails d c && cpu c)) (keeps .1) ∙ or-comm (s .notes .hold) (fails d c && cpu c);
       }
 
   memory-leaves : (b : Bool) (w : Way) (l : Lines) → (b ≡ true → fetch c ≡ true)
@@ -108,9 +96,9 @@ module _ (r : Registers) (d : Descriptor) (c : Cycle) where
   memory-leaves false way.Translated l f =
       let x : Leaves (accessed (begun r (fetch c)) d c l) (r .control) (fails d c && cpu c || r .notes .hold && not (fetch c)) =
       accessed-leaves (begun r (fetch c)) l in
-      record { control = x .control; hold = x .hold ∙ ap (λ (h : Bool). fails d c && cpu c || h) (stood (r .notes .hold) (fetch c)) }
-  memory-leaves false way.Passed l f = record { control = refl; hold = stood (r .notes .hold) (fetch c) }
-  memory-leaves false way.Silent l f = record { control = refl; hold = stood (r .notes .hold) (fetch c) }
+      record { control = x .control; hold = x .hold ∙ ap (λ (h : Bool). fails d c && cpu c || h) (and-comm (r .notes .hold) (not (fetch c))) }
+  memory-leaves false way.Passed l f = record { control = refl; hold = and-comm (r .notes .hold) (not (fetch c)) }
+  memory-leaves false way.Silent l f = record { control = refl; hold = and-comm (r .notes .hold) (not (fetch c)) }
 
   acted-leaves : (a : Action) → Leaves (acted r a) (actControl a (r .control)) (not (isSoftwareReset (Act a)) && r .notes .hold)
   unfolding acted plain restarted cleared
@@ -122,8 +110,7 @@ module _ (r : Registers) (d : Descriptor) (c : Cycle) where
   acted-leaves SetDmai = record { control = refl; hold = refl }
 
   keeps-hold : (t : Bool) → r .notes .hold ≡ (not (t && false) && r .notes .hold)
-  keeps-hold true = refl
-  keeps-hold false = refl
+  keeps-hold t = rw (and-false t)
 
   executed-leaves : (m : Command) (read : Bool)
       → Leaves (executed m read r d c) (commandControl m read c (r .control)) (not (not read && isSoftwareReset m) && r .notes .hold)
@@ -154,11 +141,7 @@ module _ (r : Registers) (d : Descriptor) (c : Cycle) where
   purpose-leaves purpose.Command x false = record { control = refl; hold = refl }
   purpose-leaves purpose.Memory x y =
       let m : _ = memory-leaves (aborts r c) (wayOf (r .control .mr) c) _ (λ e. and-l (fetch c) _ e) in
-      record { control = m .control; hold = m .hold ∙ ap (λ (t : Bool). violated || not t && r .notes .hold) (or-nothing (fetch c)) }
-    where
-      or-nothing : (f : Bool) → f ≡ (f || false)
-      or-nothing true = refl
-      or-nothing false = refl
+      record { control = m .control; hold = m .hold ∙ ap (λ (t : Bool). violated || not t && r .notes .hold) (sym (or-false (fetch c))) }
   purpose-leaves purpose.Other x y = record { control = refl; hold = refl }
 
   -- a fetch is a memory cycle
@@ -169,11 +152,7 @@ module _ (r : Registers) (d : Descriptor) (c : Cycle) where
       go true e =
           ap (λ (m : Bool). m && true)
           (memory-status (c .status) ∙ ap (λ (s : ℕ). leb 8 s && leb s 13) (eqb-true (c .status) 13 (and-r (cpu c && c .read) _ e)))
-      go false e = nothing (isMemory (purposeOf (c .status)))
-        where
-          nothing : (m : Bool) → (m && false) ≡ false
-          nothing true = refl
-          nothing false = refl
+      go false e = and-false (isMemory (purposeOf (c .status)))
 
   decided-leaves : (two one reset : Bool)
       → Leaves (decidedBy two one reset r d c) (controlBy two one reset (eqb (c .status) 3 && (cpu c && c .select)) c (r .control))

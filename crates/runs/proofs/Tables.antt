@@ -25,14 +25,6 @@ module _ {A : Type 0} where
   set-both R d x y (a ∷ s) (b ∷ t) (suc i) zero e h k = h
   set-both R d x y (a ∷ s) (b ∷ t) (suc i) (suc j) e h k = set-both R d x y s t i j (omega arith) h (λ z. k (ap suc z))
 
-  pub map-at : (R : A → A → Type 0) (f : A → A) (d : A) → ((x y : A) → R x y → R (f x) (f y)) → (s t : List A) → length s ≡ length t
-      → ((i : ℕ) → R (getD s i d) (getD t i d)) → (i : ℕ) → R (getD (map f s) i d) (getD (map f t) i d)
-  map-at R f d m [] [] e h i = h i
-  map-at R f d m [] (y ∷ t) e h i = absurd (omega arith)
-  map-at R f d m (x ∷ s) [] e h i = absurd (omega arith)
-  map-at R f d m (x ∷ s) (y ∷ t) e h zero = m x y (h 0)
-  map-at R f d m (x ∷ s) (y ∷ t) e h (suc i) = map-at R f d m s t (omega arith) (λ j. h (suc j)) i
-
   -- an entry that there is
   pub at-map : (f : A → A) (l : List A) (i : ℕ) (d : A) → i < length l → getD (map f l) i d ≡ f (getD l i d)
   at-map f [] i d h = absurd (omega arith)

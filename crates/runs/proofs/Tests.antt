@@ -19,11 +19,6 @@ and-⇒ true b x h e = rw (h refl) e
 and-⇒ false true x h e = cc
 and-⇒ false false x h e = e
 
--- the same on the right
-pub then-⇒ : (x a b : Bool) → a ⇒ b → (x && a) ⇒ (x && b)
-then-⇒ true a b h e = h e
-then-⇒ false a b h e = e
-
 pub ltb-⇒ : (a b x y : ℕ) → (a < b → x < y) → ltb a b ⇒ ltb x y
 ltb-⇒ a b x y h e = lt-ltb x y (h (ltb-true a b e))
 

@@ -2,8 +2,7 @@
 -- Assumes nothing.
 use mathlib.Core.Path.{_≡_, refl, sym, _∙_, ap}
 use mathlib.Core.Bool.{Bool, true, false, cond, not, _&&_, _||_, Bool·beq, or-false, true≢false, false≢true}
-use mathlib.Core.List.{[], _∷_}
-use Prim.Native.Nat.{ℕ, zero, suc, _+_, _*_, _/_, _%_, _^_, _≤_, _<_}
+use Prim.Native.Nat.{ℕ, _+_, _*_, _/_, _%_, _^_, _≤_, _<_}
 use native.Mathlib.Nat.{le-refl}
 use native.Mathlib.Omega.{arith}
 use lib.Dec.{eqb, ltb}
@@ -18,7 +17,7 @@ use Rattle.rules.specs.declared.Cycle.{Cycle}
 use Rattle.rules.specs.declared.Descriptor.{Descriptor}
 use Rattle.runs.specs.Answers.{breaks}
 use Rattle.runs.specs.Descriptors.{SameRules}
-use Rattle.runs.specs.Sequences.{_⇒_, Every}
+use Rattle.runs.specs.Sequences.{_⇒_}
 use Rattle.runs.specs.Tighter.{Wider}
 use Rattle.runs.proofs.Bits.{has-or}
 use Rattle.runs.proofs.Tests.{or-⇒, and-⇒, ltb-⇒, at}
@@ -50,23 +49,6 @@ breaks-⇒ {x} {y} c w =
     (and-⇒ _ _ (write c) (w .rights .0)) (and-⇒ _ _ (c .normal) (w .rights .1 .0)) (and-⇒ _ _ (not (program c)) (w .rights .1 .1 .1 .0))
     (beyond-⇒ (has a DIRW) (has b DIRW) (x .limit) (y .limit) (c .offset) (w .direction) (w .up) (w .down))
     (and-⇒ _ _ (cpu c) (w .rights .1 .1 .0)) (and-⇒ _ _ (c .dma) (w .rights .1 .1 .1 .1 .0))
-
--- The five protection flags are the masks of bits 0 to 4
-
-at-bit : (P : ℕ → Type 0) → Every P (RD ∷ SYS ∷ CPUI ∷ EXC ∷ DMAI ∷ []) → (k : ℕ) → k < 5 → P (2 ^ k)
-at-bit P h zero l = h .0
-at-bit P h (suc zero) l = h .1 .0
-at-bit P h (suc (suc zero)) l = h .1 .1 .0
-at-bit P h (suc (suc (suc zero))) l = h .1 .1 .1 .0
-at-bit P h (suc (suc (suc (suc zero)))) l = h .1 .1 .1 .1 .0
-at-bit P h (suc (suc (suc (suc (suc k))))) l = absurd (omega arith)
-
-by-bit : (P : ℕ → Type 0) → ((k : ℕ) → k < 5 → P (2 ^ k)) → Every P (RD ∷ SYS ∷ CPUI ∷ EXC ∷ DMAI ∷ [])
-by-bit P h = (h 0 (omega arith), (h 1 (omega arith), (h 2 (omega arith), (h 3 (omega arith), (h 4 (omega arith), refl)))))
-
--- a flag of y is one of x
-abbrev Allows : Descriptor → Descriptor → ℕ → Type 0
-Allows x y flag = has (y .attributes) flag ⇒ has (x .attributes) flag
 
 -- REF and CHG
 
@@ -123,21 +105,36 @@ same-wider m n w =
 
 pub wider-refl : (x : Descriptor) → Wider x x
 wider-refl x =
-    record { base = refl; direction = refl; rights = by-bit (Allows x x) λ k h e. e; up = λ e. le-refl _; down = λ e. le-refl _ }
+    record {
+      base = refl;
+      direction = refl;
+      rights = (λ e. e, (λ e. e, (λ e. e, (λ e. e, (λ e. e, refl)))));
+      up = λ e. le-refl _;
+      down = λ e. le-refl _;
+    }
 
 pub raised-wider : (m : ℕ) → has m DIRW ≡ false → (x y : Descriptor) → Wider x y → Wider (marked m x) (marked m y)
 raised-wider m n x y w =
-    let same : (a : ℕ) → has (with a m) DIRW ≡ has a DIRW = λ a. rw (has-or 5 a m, n) (or-false _) in
     record {
       base = w .base;
       direction = same (x .attributes) ∙ w .direction ∙ sym (same (y .attributes));
-      rights =
-          by-bit (Allows (marked m x) (marked m y)) λ k h e.
-          has-or k (x .attributes) m
-          ∙ or-⇒ _ _ _ _ (at-bit (Allows x y) (w .rights) k h) (λ z. z) (sym (has-or k (y .attributes) m) ∙ e);
+      rights = (
+        flag 0 (w .rights .0),
+        (
+          flag 1 (w .rights .1 .0),
+          (flag 2 (w .rights .1 .1 .0), (flag 3 (w .rights .1 .1 .1 .0), (flag 4 (w .rights .1 .1 .1 .1 .0), refl))),
+        ),
+      );
       up = λ e. w .up (sym (same (x .attributes)) ∙ e);
       down = λ e. w .down (sym (same (x .attributes)) ∙ e);
     }
+  where
+    same : (a : ℕ) → has (with a m) DIRW ≡ has a DIRW
+    same a = rw (has-or 5 a m, n) (or-false _)
+
+    flag : (k : ℕ) → has (y .attributes) (2 ^ k) ⇒ has (x .attributes) (2 ^ k)
+        → has (with (y .attributes) m) (2 ^ k) ⇒ has (with (x .attributes) m) (2 ^ k)
+    flag k h e = has-or k (x .attributes) m ∙ or-⇒ _ _ _ _ h (λ z. z) (sym (has-or k (y .attributes) m) ∙ e)
 
 -- The same byte put into two descriptors, where it turns none whose limits differ
 
