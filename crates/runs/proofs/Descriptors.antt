@@ -11,7 +11,8 @@ use lib.Seq.{getD-set-same, getD-set-other}
 use borrow.Author.Tests.{eqb-true, eqb-false, eq-eqb, not-true}
 use Rattle.rules.proofs.Blind.{isTranslated}
 use Rattle.rules.specs.Bus.{cpu, write, fetch}
-use Rattle.rules.specs.Masks.{CPUI, DMAI}
+use Rattle.rules.specs.Flags.{has}
+use Rattle.rules.specs.Masks.{RD, SYS, CPUI, EXC, DMAI, DIRW}
 use Rattle.rules.specs.PowerOn.{none}
 use Rattle.rules.specs.Refusals.{damaged, outOfRange, plain, refused}
 use Rattle.rules.specs.Runs.{units}
@@ -48,7 +49,7 @@ use Rattle.runs.proofs.Codes.{isEntry, isActOf, isAtByte, entry-codes, 
 use Rattle.runs.proofs.Looks.{conditions-way}
 use Rattle.runs.proofs.Purposes.{isCommand, isMemory, command-status, memory-status}
 use Rattle.runs.proofs.Tables.{set-at, at-map}
-use Rattle.runs.proofs.Tests.{and-l, and-r, or-l, or-r}
+use Rattle.runs.proofs.Tests.{and-l, and-r, or-l, or-r, every-both}
 use Rattle.runs.proofs.Undamaged.{bounded-exactly}
 use Rattle.runs.proofs.Wider.{touched-same}
 use Rattle.rules.specs.declared.Purpose.the-variants as purpose
@@ -201,23 +202,13 @@ same-refl : (d : Descriptor) → SameRules d d
 same-refl d = record { base = refl; limit = refl; flags = (refl, (refl, (refl, (refl, (refl, (refl, refl)))))) }
 
 same-then : {d e f : Descriptor} → SameRules d e → SameRules e f → SameRules d f
-same-then a b =
+same-then {d} {e} {f} a b =
     record {
       base = b .base ∙ a .base;
       limit = b .limit ∙ a .limit;
-      flags = (
-        b .flags .0 ∙ a .flags .0,
-        (
-          b .flags .1 .0 ∙ a .flags .1 .0,
-          (
-            b .flags .1 .1 .0 ∙ a .flags .1 .1 .0,
-            (
-              b .flags .1 .1 .1 .0 ∙ a .flags .1 .1 .1 .0,
-              (b .flags .1 .1 .1 .1 .0 ∙ a .flags .1 .1 .1 .1 .0, (b .flags .1 .1 .1 .1 .1 .0 ∙ a .flags .1 .1 .1 .1 .1 .0, refl)),
-            ),
-          ),
-        ),
-      );
+      flags =
+          every-both (λ m. has (e .attributes) m ≡ has (d .attributes) m) (λ m. has (f .attributes) m ≡ has (e .attributes) m)
+          (λ m. has (f .attributes) m ≡ has (d .attributes) m) (λ m p q. q ∙ p) (RD ∷ SYS ∷ CPUI ∷ EXC ∷ DMAI ∷ DIRW ∷ []) (a .flags) (b .flags);
     }
 
 -- a write to a descriptor is to that at SAR

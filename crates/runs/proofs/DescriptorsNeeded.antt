@@ -44,4 +44,5 @@ pub suppressed-marks-not : SuppressedMarksNot
 unfolding computed
 suppressed-marks-not claim =
     true≢false
-    (ap (λ (d : Descriptor). eqb (d .attributes) CPUI) (claim (translating (segment 0 0xFF CPUI)) (cycle false true false 8 0 0) 0 (lit< tt) refl))
+    (ap (λ (d : Descriptor). eqb (d .attributes) CPUI)
+    (claim (translating (segment 0 0xFF CPUI)) (cycle false true false 8 0 0) 0 (lit< tt) refl))

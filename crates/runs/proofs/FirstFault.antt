@@ -28,6 +28,7 @@ use Rattle.runs.specs.Sequences.{_⇒_, Every, Along}
 use Rattle.runs.proofs.Bits.{has-or, has-and, lacks-or, lacks-and}
 use Rattle.runs.proofs.Computed.{computed}
 use Rattle.runs.proofs.Examples.{unit}
+use Rattle.runs.proofs.Tests.{every-both}
 use Rattle.runs.proofs.Ways.{Became, stayed, controls, empties, clears, restarts, quiets, resumes, begins}
 use Rattle.runs.proofs.Ways.{records, by-row, made}
 
@@ -66,24 +67,12 @@ kept-refl r =
     }
 
 kept-then : {r s t : Registers} → FaultKept r s → FaultKept s t → FaultKept r t
-kept-then a b =
+kept-then {r} {s} {t} a b =
     record {
-      flags = (
-        λ e. b .flags .0 (a .flags .0 e),
-        (
-          λ e. b .flags .1 .0 (a .flags .1 .0 e),
-          (
-            λ e. b .flags .1 .1 .0 (a .flags .1 .1 .0 e),
-            (
-              λ e. b .flags .1 .1 .1 .0 (a .flags .1 .1 .1 .0 e),
-              (
-                λ e. b .flags .1 .1 .1 .1 .0 (a .flags .1 .1 .1 .1 .0 e),
-                (λ e. b .flags .1 .1 .1 .1 .1 .0 (a .flags .1 .1 .1 .1 .1 .0 e), refl),
-              ),
-            ),
-          ),
-        ),
-      );
+      flags =
+          every-both (λ f. has (r .faults .vtr) f ⇒ has (s .faults .vtr) f) (λ f. has (s .faults .vtr) f ⇒ has (t .faults .vtr) f)
+          (λ f. has (r .faults .vtr) f ⇒ has (t .faults .vtr) f) (λ f p q e. q (p e)) (RDV ∷ SYSV ∷ SLV ∷ CPUIV ∷ EXCV ∷ PWW ∷ []) (a .flags)
+          (b .flags);
       vsn = b .vsn ∙ a .vsn;
       voff = b .voff ∙ a .voff;
       bcsr = b .bcsr ∙ a .bcsr;

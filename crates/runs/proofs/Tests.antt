@@ -66,6 +66,11 @@ at zero p e k h = absurd (not-suc-le-zero h)
 at (suc n) p e zero h = and-l (p 0) _ e
 at (suc n) p e (suc k) h = at n (λ j. p (suc j)) (and-r (p 0) _ e) k (le-of-suc-le-suc h)
 
+-- two facts of each element give a third
+pub every-both : {A : Type 0} (P Q R : A → Type 0) → ((x : A) → P x → Q x → R x) → (l : List A) → Every P l → Every Q l → Every R l
+every-both P Q R f [] p q = refl
+every-both P Q R f (x ∷ l) p q = (f x (p .0) (q .0), every-both P Q R f l (p .1) (q .1))
+
 -- what holds of each number in a list holds of a number that is in it
 pub of-each : (P : ℕ → Type 0) (l : List ℕ) → Every P l → (n : ℕ) → among n l ≡ true → P n
 of-each P [] h n e = absurd (false≢true e)

@@ -24,12 +24,14 @@ none (c ∷ cs) a b f = (f .0, none cs (stepped a c .unit) (stepped b c .unit) (
 
 -- any stop that comes before an aborted fetch in the first unit
 module _ (stop : Unit → Unit → Cycle → Bool) (stops : (a b : Unit) (c : Cycle) → stop a b c ≡ false → abortedFetch a c ≡ false) where
-  cut : (cs : List Cycle) (a b : Unit) → CoversBut ofAborted false a b cs → Both Covers (answers a (before stop a b cs)) (answers b (before stop a b cs))
+  cut : (cs : List Cycle) (a b : Unit) → CoversBut ofAborted false a b cs
+      → Both Covers (answers a (before stop a b cs)) (answers b (before stop a b cs))
   unfolding answers before CoversBut
   cut [] a b h = refl
   cut (c ∷ cs) a b h =
       go (stop a b c) refl λ x.
-      cut cs (stepped a c .unit) (stepped b c .unit) (subst (λ (t : Bool). CoversBut ofAborted t (stepped a c .unit) (stepped b c .unit) cs) x (h .2))
+      cut cs (stepped a c .unit) (stepped b c .unit)
+      (subst (λ (t : Bool). CoversBut ofAborted t (stepped a c .unit) (stepped b c .unit) cs) x (h .2))
     where
       rest : List Cycle
       rest = before stop (stepped a c .unit) (stepped b c .unit) cs

@@ -58,7 +58,8 @@ HistoryEnds = HistoryUntil (λ u c. false) → ⊥
 -- violation came since the last of the four
 pub data Why (cs : List Cycle) (c : Cycle) : Type 0 where
   violatesNow : violation (final powerOn cs) c ≡ true → Why cs c
-  violatedBefore : (admitted (final powerOn cs) c && memoryCycle c && cpu c && not (fetches c)) ≡ true → ViolatedSince endsHold powerOn cs → Why cs c
+  violatedBefore : (admitted (final powerOn cs) c && memoryCycle c && cpu c && not (fetches c)) ≡ true
+      → ViolatedSince endsHold powerOn cs → Why cs c
 
 -- CLAIM: for every row of a capture, SUP is on exactly for one of these two causes.
 abbrev pub SupByHistory : Type 0
