@@ -106,11 +106,13 @@ breaks d c =
     || cond (has (d .attributes) DIRW) (ltb (c .offset) (d .limit)) (ltb (d .limit) (c .offset))
     || has (d .attributes) CPUI && cpu c || has (d .attributes) DMAI && c .dma
 
--- a violation: an unrefused memory cycle, no aborted fetch, that is translated and breaks a rule of its segment's descriptor. "Checks, on
--- translated cycles only, with descriptor segment modulo 64"
+-- an unrefused memory cycle, no aborted fetch, that meets the translation conditions
+abbrev pub translated : Unit → Cycle → Bool
+translated u c = admitted u c && memoryCycle c && not (awaited u c) && translationConditions (u .registers .control .mr) c
+
+-- a violation: it breaks a rule of its segment's descriptor. "Checks, on translated cycles only, with descriptor segment modulo 64"
 abbrev pub violation : Unit → Cycle → Bool
-violation u c =
-    admitted u c && memoryCycle c && not (awaited u c) && translationConditions (u .registers .control .mr) c && breaks (segmentOf u c) c
+violation u c = translated u c && breaks (segmentOf u c) c
 
 -- "any CPU memory cycle, translated or not, while hold was already set": a fetch clears hold first
 abbrev pub heldBack : Unit → Cycle → Bool

@@ -17,9 +17,8 @@ use Rattle.rules.specs.Step.{marked, stepped}
 use Rattle.rules.specs.declared.Cycle.{Cycle}
 use Rattle.rules.specs.declared.Descriptor.{Descriptor}
 use Rattle.rules.specs.declared.Unit.{Unit}
-use Rattle.runs.specs.Answers.{awaited}
-use Rattle.runs.specs.Cycles.{selectedCommand, memoryCycle, translationConditions, descriptorWrite, writes}
-use Rattle.runs.specs.Refusal.{admitted}
+use Rattle.runs.specs.Answers.{translated}
+use Rattle.runs.specs.Cycles.{selectedCommand, descriptorWrite, writes}
 use Rattle.runs.specs.Sequences.{Every, Along}
 
 -- descriptor i of a unit
@@ -95,11 +94,7 @@ SetsWhere There =
     → (writesHere 0x15 u c ≡ true → descriptor (stepped u c .unit) i ≡ marked CPUI (descriptor u i))
     × (writesHere 0x16 u c ≡ true → descriptor (stepped u c .unit) i ≡ marked DMAI (descriptor u i))
 
--- "A translated cycle [..], not an aborted fetch"
-abbrev pub translated : Unit → Cycle → Bool
-translated u c = admitted u c && memoryCycle c && not (awaited u c) && translationConditions (u .registers .control .mr) c
-
--- "with SUP off"
+-- "A translated cycle with SUP off, not an aborted fetch"
 abbrev pub letThrough : Unit → Cycle → Bool
 letThrough u c = translated u c && not (stepped u c .answer .sup)
 
