@@ -2,16 +2,15 @@
 -- Assumes nothing.
 use mathlib.Core.Path.{refl, ap}
 use mathlib.Core.Bool.{true, false, false≢true, true≢false}
-use mathlib.Core.List.{[]}
 use Prim.Native.Nat.{ℕ}
 use lib.Dec.{eqb, lit<}
 use Rattle.rules.specs.Masks.{CPUI}
 use Rattle.rules.specs.PowerOn.{powerOn}
 use Rattle.rules.specs.Rows.{segment, cycle, command, translating}
 use Rattle.rules.specs.declared.Descriptor.{Descriptor}
-use Rattle.rules.specs.declared.Unit.{Unit}
 use Rattle.runs.specs.Descriptors.{EachChanges, HasNeeded, CommandsExcluded, SuppressedMarksNot}
 use Rattle.runs.proofs.Computed.{computed}
+use Rattle.runs.proofs.Examples.{bare}
 
 -- a write of %08 puts %01 into descriptor 0, set all CPUI and set all DMAI set their flags there
 pub each-changes : EachChanges
@@ -23,15 +22,12 @@ each-changes = (
 )
 
 -- a unit of no descriptors; MR %C0
-empty : Unit
-empty = record { table = []; registers = translating (record { base = 0; limit = 0; attributes = 0 }) .registers }
-
 pub has-needed : HasNeeded
-unfolding empty computed
+unfolding computed
 has-needed = (
-  λ claim. true≢false (ap (λ (d : Descriptor). eqb (d .base) 0) (claim empty (command false 0x08 1) 0 refl refl)),
-  λ claim. true≢false (ap (λ (d : Descriptor). eqb (d .attributes) 0) (claim empty (command false 0x15 0) 0 refl .0 refl)),
-  λ claim. true≢false (ap (λ (d : Descriptor). eqb (d .attributes) 0) (claim empty (cycle false true false 8 0 0) 0 refl refl)),
+  λ claim. true≢false (ap (λ (d : Descriptor). eqb (d .base) 0) (claim bare (command false 0x08 1) 0 refl refl)),
+  λ claim. true≢false (ap (λ (d : Descriptor). eqb (d .attributes) 0) (claim bare (command false 0x15 0) 0 refl .0 refl)),
+  λ claim. true≢false (ap (λ (d : Descriptor). eqb (d .attributes) 0) (claim bare (cycle false true false 8 0 0) 0 refl refl)),
 )
 
 pub commands-excluded : CommandsExcluded

@@ -10,7 +10,7 @@ use Rattle.rules.specs.Flags.{has}
 use Rattle.rules.specs.Masks.{RD, TRNS}
 use Rattle.rules.specs.PowerOn.{none, powerOn}
 use Rattle.rules.specs.Refusals.{damaged, outOfRange, off, plain, refused}
-use Rattle.rules.specs.Rows.{segment, cycle, command, unitAt, unitWith}
+use Rattle.rules.specs.Rows.{segment, cycle, command, unitAt, unitWith, acknowledge as acknowledges}
 use Rattle.rules.specs.Status.{resetBy, ignored, purposeOf, byPurpose, byStatus}
 use Rattle.rules.specs.Recording.{eventOf, recorded}
 use Rattle.rules.specs.Memory.{seen, begun, noted, checked, accessed, aborted, untranslated, memoryBy, aborts, memory}
@@ -28,11 +28,14 @@ use Rattle.rules.specs.declared.Way.{Way}
 use Rattle.runs.specs.Answers.{awaited, kindBy, driven, breaks, heldBack, SameMr}
 use Rattle.runs.specs.Cycles.{selectedCommand, acknowledge, memoryCycle, fetches, passingConditions, translationConditions}
 use Rattle.runs.specs.Dma.{SameSegment, DmaLeaves, DmaLeavesNeeds, DmaMarks, DmaTrap, DmaAnswers, DmaAnswersNeed}
+use Rattle.runs.specs.Dma.{DmaMarksNeeds, DmaTrapNeeds}
 use Rattle.runs.specs.Hold.{holding}
 use Rattle.runs.specs.Refusal.{earliest, unlisted, wrongWay, admitted}
+use Rattle.runs.specs.Trap.{requesting}
 use Rattle.runs.proofs.Answers.{fails, kind-exactly, address-exactly, sup-exactly}
 use Rattle.runs.proofs.Computed.{computed}
 use Rattle.runs.proofs.Descriptors.{marks-exactly}
+use Rattle.runs.proofs.Examples.{bare}
 use Rattle.runs.proofs.Trap.{trap-shows}
 use Rattle.rules.specs.declared.Purpose.the-variants as purpose
 use Rattle.rules.specs.declared.Way.the-variants as way
@@ -107,7 +110,7 @@ unfolding after
 dma-leaves u c h = idle u c (h .0) .registers (h .1)
 
 pub dma-trap : DmaTrap
-dma-trap u c dma e = trap-shows u c ∙ ap (λ (r : Registers). r .notes .request) (dma-leaves u c (dma, e))
+dma-trap u c h = trap-shows u c ∙ ap (λ (r : Registers). r .notes .request) (dma-leaves u c h)
 
 pub dma-marks : DmaMarks
 dma-marks u c i s dma =
@@ -206,6 +209,14 @@ dma-leaves-needs = (
   λ claim. true≢false (ap (λ (r : Registers). eqb (r .control .mr) 0) (claim (unitWith 0xC0 0 none) (dmaWrite true) refl)),
   λ claim. true≢false (ap (λ (r : Registers). eqb (r .control .mr) 0) (claim (unitWith 0xC0 0 none) (command false 0x00 0) refl)),
 )
+
+pub dma-trap-needs : DmaTrapNeeds
+unfolding dmaWrite computed
+dma-trap-needs = (λ claim. false≢true (claim requesting (dmaWrite true) refl), λ claim. false≢true (claim requesting acknowledges refl))
+
+pub dma-marks-needs : DmaMarksNeeds
+unfolding dmaWrite computed
+dma-marks-needs claim = true≢false (ap (λ (d : Descriptor). eqb (d .attributes) 0) (claim bare (dmaWrite false) 0 refl refl))
 
 -- SAR 64 refuses it, hold in one unit suppresses a CPU cycle there, MR %80 drives an address, and RD in one unit makes it a violation
 whole : Unit

@@ -2,7 +2,7 @@
 -- Assumes nothing.
 use mathlib.Core.Path.{refl}
 use mathlib.Core.Bool.{Bool, false}
-use mathlib.Core.List.{_∷_}
+use mathlib.Core.List.{[], _∷_}
 use Prim.Native.Nat.{ℕ, zero, suc, _<_}
 use lib.Dec.{lit≤}
 use lib.ListN.{getD, replicate}
@@ -35,6 +35,10 @@ unit x y z = unitOf 0xC0 0 0 false x y z
 pub unit-undamaged : (x y z : Descriptor) → Undamaged (unit x y z)
 unfolding damaged
 unit-undamaged x y z = record { size = refl; sound = refl }
+
+-- a unit of no descriptors
+abbrev pub bare : Unit
+bare = record { table = []; registers = unit none none none .registers }
 
 -- where these descriptors are wider, all are
 pub wider-entries : {x y z x' y' z' : Descriptor} → Wider x x' → Wider y y' → Wider z z' → (i : ℕ) → i < 64

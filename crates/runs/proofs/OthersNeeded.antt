@@ -24,7 +24,7 @@ use Rattle.runs.specs.Others.{ReadsNeeded}
 use Rattle.runs.specs.Sequences.{Along, all}
 use Rattle.runs.specs.Trap.{requesting}
 use Rattle.runs.proofs.Computed.{computed}
-use Rattle.runs.proofs.Examples.{unit, unit-undamaged}
+use Rattle.runs.proofs.Examples.{unit, unit-undamaged, bare}
 use Rattle.runs.proofs.Tests.{at, and-r}
 use Rattle.runs.proofs.Undamaged.{undamaged-from-power-on}
 
@@ -131,11 +131,8 @@ registers-needed claim =
 
 -- The 64 descriptors. The first unit has none: set all CPUI closes segment 0 in the second alone, which suppresses the read.
 
-bare : Unit
-bare = record { table = []; registers = unit none none none .registers }
-
 pub size-needed : SizeNeeded
-unfolding bare Along computed
+unfolding Along computed
 size-needed claim =
     true≢false
     (ap (all (λ (x : Answer). not (x .sup)))

@@ -8,7 +8,7 @@ use Rattle.rules.specs.declared.Answer.{Answer}
 use Rattle.rules.specs.declared.Cycle.{Cycle}
 use Rattle.rules.specs.declared.Unit.{Unit}
 use Rattle.runs.specs.Answers.{segmentOf, SameMr}
-use Rattle.runs.specs.Descriptors.{Has, letThrough, MarksWhere}
+use Rattle.runs.specs.Descriptors.{Has, Anywhere, letThrough, MarksWhere}
 
 abbrev pub ByDma : Cycle → Type 0
 ByDma c = c .dma ≡ true
@@ -33,9 +33,21 @@ DmaLeavesNeeds = (RegistersStay ByDma → ⊥) × (RegistersStay NoReset → ⊥
 abbrev pub DmaMarks : Type 0
 DmaMarks = MarksWhere letThrough (λ c. c .dma) Has
 
--- CLAIM: the trap line shows the request as it stood.
+-- CLAIM: a descriptor that is not there is not changed.
+abbrev pub DmaMarksNeeds : Type 0
+DmaMarksNeeds = MarksWhere letThrough (λ c. c .dma) Anywhere → ⊥
+
+-- the trap line is as the request stood
+abbrev pub TrapStays : (May : Cycle → Type 0) → Type 0
+TrapStays May = (u : Unit) (c : Cycle) → May c → stepped u c .answer .trap ≡ u .registers .notes .request
+
+-- CLAIM: in a DMA cycle without reset the trap line shows the request as it stood.
 abbrev pub DmaTrap : Type 0
-DmaTrap = (u : Unit) (c : Cycle) → ByDma c → NoReset c → stepped u c .answer .trap ≡ u .registers .notes .request
+DmaTrap = TrapStays (λ c. ByDma c × NoReset c)
+
+-- CLAIM: a reset takes it back whoever is master, and an acknowledge does.
+abbrev pub DmaTrapNeeds : Type 0
+DmaTrapNeeds = (TrapStays ByDma → ⊥) × (TrapStays NoReset → ⊥)
 
 -- two answers are the same but for the trap line
 pub record SameButTrap (x y : Answer) : Type 0 where
