@@ -14,7 +14,7 @@ use lib.Seq.{sets}
 use Rattle.listing.specs.Listed.{filled, lengthOf}
 use Rattle.reader.specs.declared.Found.{Found}
 use Rattle.reader.specs.declared.Step.the-variants.{Record, No}
-use Rattle.rules.specs.Rows.{segment, translating, cycle}
+use Rattle.rules.specs.Seen.{segment, translating, cycle}
 use Rattle.rules.specs.declared.Kind.the-variants.{Translated}
 use Rattle.rules.specs.declared.Stepped.{Stepped}
 use Rattle.lent.proofs.step_by_lending.Kinds as step-by-lending-k

@@ -5,11 +5,10 @@ use mathlib.Core.Bool.{Bool, true, false}
 use mathlib.Core.List.{List, [], _∷_, _++_}
 use Prim.Native.Nat.{ℕ, suc, _+_}
 use Rattle.rules.specs.Seen.{Row, row, rowAfter, below, faults, notes, noNote, warned, everyNote, unitOf, standing}
+use Rattle.rules.specs.Seen.{segment, unitWith, translating, cycle, reads, writes, pushes, acknowledge, command, resets}
 use Rattle.rules.specs.Seen.{drivesBlock, drivesByte, drivesNothing, translated, refusal}
 use Rattle.rules.specs.declared.Unit.{Unit}
 use Rattle.rules.specs.declared.Kind.the-variants as kind
--- units and cycles that theorems of other crates are about too
-pub use Rattle.rules.specs.Seen.{segment, unitWith, translating, cycle, reads, writes, pushes, acknowledge, command, resets}
 
 -- "P1 base %2311, offset %15: %2326. P2 base %FFF0, offset %20: %0010."
 abbrev pub sums : List Row

@@ -6,7 +6,7 @@ use Prim.Native.Nat.{ℕ}
 use lib.Dec.{eqb, lit<}
 use Rattle.rules.specs.Masks.{CPUI}
 use Rattle.rules.specs.PowerOn.{powerOn}
-use Rattle.rules.specs.Rows.{segment, cycle, command, translating}
+use Rattle.rules.specs.Seen.{segment, cycle, command, translating}
 use Rattle.rules.specs.declared.Descriptor.{Descriptor}
 use Rattle.runs.specs.Descriptors.{EachChanges, HasNeeded, CommandsExcluded, SuppressedMarksNot}
 use Rattle.runs.proofs.Computed.{computed}

@@ -10,7 +10,7 @@ use Rattle.rules.specs.Flags.{has}
 use Rattle.rules.specs.Masks.{RD, TRNS}
 use Rattle.rules.specs.PowerOn.{none, powerOn}
 use Rattle.rules.specs.Refusals.{damaged, outOfRange, off, plain, refused}
-use Rattle.rules.specs.Rows.{segment, cycle, command, unitAt, unitWith, acknowledge as acknowledges}
+use Rattle.rules.specs.Seen.{segment, faults, noNote, cycle, command, unitOf, unitWith, acknowledge as acknowledges}
 use Rattle.rules.specs.Status.{resetBy, ignored, purposeOf, byPurpose, byStatus}
 use Rattle.rules.specs.Recording.{eventOf, recorded}
 use Rattle.rules.specs.Memory.{seen, begun, noted, checked, accessed, aborted, untranslated, memoryBy, aborts, memory}
@@ -220,10 +220,10 @@ dma-marks-needs claim = true≢false (ap (λ (d : Descriptor). eqb (d .attribute
 
 -- SAR 64 refuses it, hold in one unit suppresses a CPU cycle there, MR %80 drives an address, and RD in one unit makes it a violation
 whole : Unit
-whole = unitAt 0x80 0 0 0 false none
+whole = unitWith 0x80 0 none
 
 broken : Unit
-broken = unitAt 0x80 64 0 0 false none
+broken = unitOf 0x80 64 0 (faults 0 0 0 0) 0 0 noNote 0 none
 
 withFlags : (attributes : ℕ) → Unit
 withFlags a = unitWith 0xC0 0 (segment 0 0xFF a)

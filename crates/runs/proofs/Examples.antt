@@ -9,7 +9,7 @@ use lib.ListN.{getD, replicate}
 use Rattle.rules.specs.Masks.{RD, CPUI}
 use Rattle.rules.specs.PowerOn.{none, powerOn}
 use Rattle.rules.specs.Refusals.{damaged}
-use Rattle.rules.specs.Rows.{segment}
+use Rattle.rules.specs.Seen.{segment}
 use Rattle.rules.specs.declared.Descriptor.{Descriptor}
 use Rattle.rules.specs.declared.Unit.{Unit}
 use Rattle.runs.specs.Tighter.{Wider}

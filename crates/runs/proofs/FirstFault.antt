@@ -12,7 +12,7 @@ use Rattle.rules.proofs.FlagLaws.{has-bit}
 use Rattle.rules.specs.Flags.{has, lacks}
 use Rattle.rules.specs.Masks.{SYS, RDV, SYSV, SLV, CPUIV, EXCV, PWW, PRIMARY}
 use Rattle.rules.specs.PowerOn.{none}
-use Rattle.rules.specs.Rows.{segment, cycle}
+use Rattle.rules.specs.Seen.{segment, cycle}
 use Rattle.rules.specs.Runs.{units}
 use Rattle.rules.specs.Status.{quieted}
 use Rattle.rules.specs.Recording.{firstEntry, added, raised, recorded}

@@ -9,7 +9,7 @@ use lib.ListN.{getD}
 use Rattle.rules.specs.Bus.{cpu, fetch}
 use Rattle.rules.specs.Masks.{DMAI}
 use Rattle.rules.specs.PowerOn.{none, powerOn}
-use Rattle.rules.specs.Rows.{segment, cycle, acknowledge, command, translating}
+use Rattle.rules.specs.Seen.{segment, cycle, acknowledge, command, translating}
 use Rattle.rules.specs.Runs.{final}
 use Rattle.rules.specs.Step.{place, after, stepped}
 use Rattle.rules.specs.declared.Cycle.{Cycle}

@@ -8,7 +8,7 @@ use native.Mathlib.Omega.{arith}
 use lib.Dec.{eqb, lit≤, lit<}
 use Rattle.rules.specs.Masks.{DIRW}
 use Rattle.rules.specs.PowerOn.{none, powerOn}
-use Rattle.rules.specs.Rows.{segment, cycle, command}
+use Rattle.rules.specs.Seen.{segment, cycle, command}
 use Rattle.rules.specs.declared.Cycle.{Cycle}
 use Rattle.rules.specs.declared.Descriptor.{Descriptor}
 use Rattle.rules.specs.declared.Lines.{Lines}

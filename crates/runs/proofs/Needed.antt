@@ -6,7 +6,7 @@ use mathlib.Core.List.{List, [], _∷_}
 use Rattle.rules.specs.Masks.{DIRW}
 use lib.Dec.{lit≤}
 use Rattle.rules.specs.PowerOn.{none}
-use Rattle.rules.specs.Rows.{segment, cycle, command}
+use Rattle.rules.specs.Seen.{segment, cycle, command}
 use Rattle.rules.specs.Runs.{answers}
 use Rattle.rules.specs.declared.Cycle.{Cycle}
 use Rattle.rules.specs.declared.Descriptor.{Descriptor}

@@ -11,7 +11,7 @@ use borrow.Author.Tests.{eq-eqb, eqb-true, leb-true, not-true}
 use Rattle.rules.specs.Masks.{RD}
 use Rattle.rules.specs.PowerOn.{none, powerOn}
 use Rattle.rules.specs.Refusals.{outOfRange}
-use Rattle.rules.specs.Rows.{segment, cycle, command}
+use Rattle.rules.specs.Seen.{segment, cycle, command}
 use Rattle.rules.specs.Runs.{answers}
 use Rattle.rules.specs.Step.{stepped}
 use Rattle.rules.specs.declared.Answer.{Answer}

@@ -15,7 +15,7 @@ use Rattle.rules.specs.Flags.{has, lacks, with, flagIf}
 use Rattle.rules.specs.Masks.{SLV, DIRW, PWW, SWW, FATL, PRIMARY}
 use Rattle.rules.specs.PowerOn.{none, powerOn}
 use Rattle.rules.specs.Refusals.{damaged, outOfRange}
-use Rattle.rules.specs.Rows.{segment, cycle}
+use Rattle.rules.specs.Seen.{segment, cycle}
 use Rattle.rules.specs.Runs.{final}
 use Rattle.rules.specs.Status.{quieted, purposeOf, byPurpose, byStatus}
 use Rattle.rules.specs.Recording.{eventOf, firstEntry, added, raised, rowOf, stackWarning, recorded}

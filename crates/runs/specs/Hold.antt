@@ -6,7 +6,7 @@ use mathlib.Core.List.{List, [], _∷_, _++_}
 use mathlib.Core.Logic.{_↔_}
 use Rattle.rules.specs.Bus.{cpu}
 use Rattle.rules.specs.PowerOn.{powerOn}
-use Rattle.rules.specs.Rows.{cycle}
+use Rattle.rules.specs.Seen.{cycle}
 use Rattle.rules.specs.Runs.{final}
 use Rattle.rules.specs.Step.{stepped}
 use Rattle.rules.specs.declared.Cycle.{Cycle}
