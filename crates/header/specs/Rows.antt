@@ -1,7 +1,7 @@
 -- The edges of a trace's header: one table of rows. Each row is a trace and the number of "Numbers that say no" that refuses it, or 0 where
 -- it is taken.
 -- `Rows` (proofs/) shows that all of them hold of the definitions.
-use mathlib.Core.Bool.{Bool, true, false, _&&_}
+use mathlib.Core.Bool.{Bool, true, _&&_}
 use mathlib.Core.List.{List, [], _∷_, _++_}
 use Prim.Native.Nat.{ℕ}
 use lib.Dec.{eqb}

@@ -8,7 +8,7 @@ ghost use Rattle.listing.specs.Text.{printed};
 use libc::STDIN_FILENO;
 use libc::STDOUT_FILENO;
 
-// Writes the text of the trace, and asks that it is that: so nothing else is ever handed to be written. Where standard output is closed or
+// Writes the text of the trace, and asks that it is that: so this call can hand on nothing else, and no other writes. Where standard output is closed or
 // fails, the rest is not written, and the program ends.
 fn write_text(trace: &[u8], text: &[u8])
     requires { ⌜ now text ≡ printed (now trace) ⌝ }

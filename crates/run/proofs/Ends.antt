@@ -11,12 +11,12 @@ use lib.Seq.{sets}
 use borrow.Author.Tests.{eqb-true, eqb-false, not-true, not-false, le-ltb}
 use Rattle.header.specs.Header.{refusalOf}
 use Rattle.header.proofs.Taken.{taken}
-use Rattle.pack.specs.Packed.{bytesOf}
+use Rattle.pack.specs.Packed.{width, bytesOf}
 use Rattle.rules.specs.PowerOn.{powerOn}
 use Rattle.rules.specs.Runs.{answers}
 use Rattle.trace.specs.Trace.{givenOf, cyclesOf}
 use Rattle.trace.proofs.Within.{all-given}
-use Rattle.run.specs.Run.{numberBy, bufferBy, refused, narrow, Ran}
+use Rattle.run.specs.Run.{room, numberBy, bufferBy, refused, narrow, Ran}
 
 -- all records of a trace that is taken lie within it
 pub fits : (t : List ℕ) → refusalOf t ≡ 0 → (givenOf t ≤ 16000) × (length t ≡ 7 + 4 * givenOf t)
@@ -28,9 +28,9 @@ pub ends : (t l m : List ℕ) (number : ℕ) (r n : Bool) → refused t ≡ r �
 ends t l m number r n e f says leaves = record { says = rw (e, f) says; leaves = rw (e, f) leaves }
 
 -- a buffer with room for the longest trace: the number is the trace's own, and the answers of a trace that is taken stand in the buffer
-module _ {t l m : List ℕ} {number : ℕ} (ran : Ran t l m number) (room : 96000 ≤ length l) where
+module _ {t l m : List ℕ} {number : ℕ} (ran : Ran t l m number) (long : room ≤ length l) where
   wide : refusalOf t ≡ 0 → narrow t l ≡ false
-  wide e = le-ltb (length l) (6 * givenOf t) (omega (arith, fits t e .0))
+  wide e = le-ltb (length l) (width * givenOf t) (omega (arith, fits t e .0))
 
   by : (b : Bool) → refused t ≡ b → (number ≡ refusalOf t) × (refusalOf t ≡ 0 → m ≡ bufferBy false false t l)
   by true e = (

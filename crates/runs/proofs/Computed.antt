@@ -1,4 +1,4 @@
--- Every rule that stays shut, and the word of the claims that does, under one name: `unfolding computed` opens them all, for a test that antt
+-- Every rule that stays shut, and `descriptorWrite` of the claims, under one name: `unfolding computed` opens them all, for a test that antt
 -- computes.
 -- Assumes nothing.
 use Prim.Native.Nat.{ℕ}

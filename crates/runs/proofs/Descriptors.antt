@@ -41,7 +41,7 @@ use Rattle.rules.specs.declared.Way.{Way}
 use Rattle.runs.specs.Answers.{awaited}
 use Rattle.runs.specs.Cycles.{selectedCommand, memoryCycle, translationConditions, onDescriptor, descriptorWrite}
 use Rattle.runs.specs.Descriptors.{descriptor, writesTo, writesHere, SameRules, changes, DescriptorsStay, DescriptorsStayThroughout}
-use Rattle.runs.specs.Descriptors.{byteAt, letThrough, WriteReplaces, SetAllSets, MarksExactly}
+use Rattle.runs.specs.Descriptors.{byteAt, letThrough, spares, WriteReplaces, SetAllSets, MarksExactly}
 use Rattle.runs.specs.Refusal.{admitted}
 use Rattle.runs.specs.Sequences.{Every, Along}
 use Rattle.runs.proofs.Answers.{fails, memory-place}
@@ -292,7 +292,7 @@ set-all-sets u c i s = change-raises c (byteIn u c) (u .table) (place u c) i (al
 -- Memory cycles
 
 change-marks : {e p m lets : Bool} {h : Change} (c : Cycle) (k : ℕ) (t : List Descriptor) (j i : ℕ)
-    → Alters c (getD t j none) k e p m lets h → e ≡ false → p ≡ false → m ≡ false → i < length t
+    → Alters c (getD t j none) k e p m lets h → (e ≡ true → i ≡ j → ⊥) → p ≡ false → m ≡ false → i < length t
     → getD (changed h j t) i none ≡ cond (lets && eqb i j) (touched (getD t i none) c) (getD t i none)
 unfolding changed
 change-marks c k t j i keeps x y z s = refl
@@ -302,24 +302,31 @@ change-marks c k t j i touches x y z s = go (eqb i j) refl
         → getD (set t j (touched (getD t j none) c)) i none ≡ cond b (touched (getD t i none) c) (getD t i none)
     go true q = rw (eqb-true i j q) (getD-set-same t j (touched (getD t j none) c) none (rw (eqb-true i j q) at s))
     go false q = getD-set-other t j i (touched (getD t j none) c) none (eqb-false i j q)
-change-marks c k t j i puts x y z s = absurd (true≢false x)
+change-marks c k t j i puts x y z s = getD-set-other t j i (replaced (getD t j none) k (c .byte)) none (x refl)
 change-marks c k t j i cpuis x y z s = absurd (true≢false y)
 change-marks c k t j i dmais x y z s = absurd (true≢false z)
 
-no-command : (t o r w n : Bool) → not r ≡ true → (t && (o && r && w && n)) ≡ false
-no-command true true r w n e = rw (not-true r e)
-no-command true false r w n e = refl
-no-command false o r w n e = refl
+spared : (d o r w x y z e : Bool) → r ≡ false
+    → not (d && (o && r && w && x) && e || d && (o && r && w && y) || d && (o && r && w && z)) ≡ true
+spared true true r w x y z e q = rw q
+spared true false r w x y z e q = refl
+spared false o r w x y z e q = refl
+
+-- what is no selected command is none of the three
+pub spares-all : (u : Unit) (c : Cycle) (i : ℕ) → selectedCommand c ≡ false → spares u c i ≡ true
+unfolding descriptorWrite
+spares-all u c i q =
+    spared (not (damaged (u .registers))) (not (outOfRange c)) (selectedCommand c) (write c) (onDescriptor (c .offset))
+    (eqb (c .offset) 0x15) (eqb (c .offset) 0x16) (eqb (u .registers .control .sar) i) q
 
 pub marks-exactly : MarksExactly
-unfolding after descriptorWrite
+unfolding after
 marks-exactly u c i s n =
-    let d : Bool = not (damaged (u .registers)) in
-    let o : Bool = not (outOfRange c) in
+    let f : changes u c i ≡ false = not-true (changes u c i) n in
+    let w : (writesTo u c i || writesHere 0x15 u c) ≡ false = or-l (writesTo u c i || writesHere 0x15 u c) _ f in
     change-marks c (byteIn u c) (u .table) (place u c) i (alters u c)
-    (no-command d o (selectedCommand c) (write c) (onDescriptor (c .offset)) n)
-    (no-command d o (selectedCommand c) (write c) (eqb (c .offset) 0x15) n)
-    (no-command d o (selectedCommand c) (write c) (eqb (c .offset) 0x16) n) s
+    (λ h q. true≢false (sym (rw h (eq-eqb _ _ (sym (q ∙ command-place u c h)))) ∙ or-l (writesTo u c i) _ w))
+    (or-r (writesTo u c i) _ w) (or-r (writesTo u c i || writesHere 0x15 u c) _ f) s
     ∙ ap (λ (b : Bool). cond b (touched (descriptor u i) c) (descriptor u i)) (go (letThrough u c) refl)
   where
     go : (b : Bool) → letThrough u c ≡ b → (b && eqb i (place u c)) ≡ (b && eqb i (c .segment % 64))

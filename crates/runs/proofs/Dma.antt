@@ -34,7 +34,7 @@ use Rattle.runs.specs.Refusal.{earliest, unlisted, wrongWay, admitted}
 use Rattle.runs.specs.Trap.{requesting}
 use Rattle.runs.proofs.Answers.{fails, kind-exactly, address-exactly, sup-exactly}
 use Rattle.runs.proofs.Computed.{computed}
-use Rattle.runs.proofs.Descriptors.{marks-exactly}
+use Rattle.runs.proofs.Descriptors.{spares-all, marks-exactly}
 use Rattle.runs.proofs.Examples.{bare}
 use Rattle.runs.proofs.Trap.{trap-shows}
 use Rattle.rules.specs.declared.Purpose.the-variants as purpose
@@ -115,7 +115,7 @@ dma-trap u c h = trap-shows u c ∙ ap (λ (r : Registers). r .notes .request) (
 pub dma-marks : DmaMarks
 dma-marks u c i s dma =
     marks-exactly u c i s
-    (ap not
+    (spares-all u c i
     (ap (λ (t : Bool). not (c .reset) && eqb (c .status) 3 && (not t && c .select)) dma ∙ and-false (not (c .reset) && eqb (c .status) 3)))
 
 -- Answers

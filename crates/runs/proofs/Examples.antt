@@ -1,4 +1,4 @@
--- Units that counterexamples are made of. `Rows` of the rules has their descriptors and cycles.
+-- Units that counterexamples are made of. `Seen` of the rules has their descriptors and cycles.
 -- Assumes nothing.
 use mathlib.Core.Path.{refl}
 use mathlib.Core.Bool.{Bool, false}

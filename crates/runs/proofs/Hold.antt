@@ -189,4 +189,4 @@ dma-lasts-not claim =
 
 pub each-ends-hold : EachEndsHold
 unfolding computed
-each-ends-hold = (refl, ((refl, refl), ((refl, refl), ((refl, refl), ((refl, refl), refl)))))
+each-ends-hold = (refl, refl, ((refl, refl), ((refl, refl), ((refl, refl), ((refl, refl), refl)))))

@@ -1,4 +1,4 @@
--- Why the weaker start needs what it says, and not all writes may come: runs of one or two cycles that antt computes in two units.
+-- Why the weaker start needs what it says, and not all writes may come: short runs that antt computes in two units.
 -- Assumes nothing.
 use mathlib.Core.Path.{refl, ap}
 use mathlib.Core.Bool.{Bool, true, false, true≢false, false≢true}
@@ -17,7 +17,7 @@ use Rattle.runs.specs.Narrower.{Narrower, AlongBoth, HoldNeeded, MrNeede
 use Rattle.runs.specs.Narrower.{RelationStops, UndamagedNeeded, TablesNeeded}
 use Rattle.runs.specs.Tighter.{Wider, before}
 use Rattle.runs.specs.Undamaged.{Undamaged}
-use Rattle.runs.specs.Unstopped.{CoversBut, InstructionExcepted, NarrowedNeeds}
+use Rattle.runs.specs.Unstopped.{CoversBut, InstructionExcepted, NarrowedNeeds, PutBackNeeded}
 use Rattle.runs.proofs.Computed.{computed}
 use Rattle.runs.proofs.Examples.{unitOf, unit, unit-undamaged, wider-entries, readOnly, writable, closed, writable-wider}
 use Rattle.runs.proofs.Tighter.{narrower-kept}
@@ -210,4 +210,20 @@ narrowed-needs = (
         arith,
         claim powerOn (command false 0x09 0x01 ∷ []) (record { size = refl; sound = refl }) (refl, refl) refl .table 0 (lit< tt) .up refl,
       )),
+)
+
+-- the units of `sar-needed` and `dscr-needed`: here the second is the unit as it was, and a write of %01 or %20 has made the first of it
+pub put-back-needed : PutBackNeeded
+unfolding high at-sar at-byte AlongBoth CoversBut computed
+put-back-needed = (
+  λ claim.
+      true≢false
+      (ap (λ (l : Lines). eqb (l .block) 0x00F0)
+      (claim (at-sar 0) (command false 0x01 0x02 ∷ []) (record { size = refl; sound = refl }) (refl, refl) (λ i s. wider-refl _, refl)
+      (command false 0x0C 0x00 ∷ cycle false false false 8 66 0 ∷ []) (λ e. refl, (λ e. refl, refl)) .2 .0)),
+  λ claim.
+      true≢false
+      (ap (λ (l : Lines). eqb (l .block) 0x0100)
+      (claim (at-byte 3) (command false 0x20 0x00 ∷ []) (record { size = refl; sound = refl }) (refl, refl) (λ i s. wider-refl _, refl)
+      (command false 0x0B 0x01 ∷ cycle false true false 8 0 0 ∷ []) (λ e. refl, (λ e. refl, refl)) .2 .0)),
 )

@@ -1,5 +1,5 @@
--- One walk over the rules for every claim about the registers of a single unit: how the registers after a cycle come from those before it,
--- and that the trap answer shows their request.
+-- One walk over the rules for the claims about VTR and its companions, damage and the trap line: how the registers of a single unit after a
+-- cycle come from those before it, and that the trap answer shows their request.
 -- Assumes nothing.
 use mathlib.Core.Path.{_≡_, refl}
 use mathlib.Core.Bool.{Bool, true, false, cond, not, _&&_, _||_, and-false}

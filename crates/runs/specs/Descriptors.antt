@@ -99,16 +99,17 @@ abbrev pub letThrough : Unit → Cycle → Bool
 letThrough u c = translated u c && not (stepped u c .answer .sup)
 
 -- "sets REF, and CHG too if it writes", in the descriptor of its segment and in no other
-abbrev pub MarksWhere : (marks : Unit → Cycle → Bool) → (May : Cycle → Bool) → (There : Unit → ℕ → Type 0) → Type 0
+abbrev pub MarksWhere : (marks : Unit → Cycle → Bool) → (May : Unit → Cycle → ℕ → Bool) → (There : Unit → ℕ → Type 0) → Type 0
 MarksWhere marks May There =
     (u : Unit) (c : Cycle) (i : ℕ)
     → There u i
-    → May c ≡ true
+    → May u c i ≡ true
     → descriptor (stepped u c .unit) i
     ≡ cond (marks u c && eqb i (c .segment % 64)) (touched (descriptor u i) c) (descriptor u i)
 
-abbrev pub noCommand : Cycle → Bool
-noCommand c = not (selectedCommand c)
+-- none of the three that change descriptor i
+abbrev pub spares : Unit → Cycle → ℕ → Bool
+spares u c i = not (changes u c i)
 
 -- CLAIM: a write replaces one byte of the descriptor at SAR as it stood, told by its code and by DSCR as it stood.
 abbrev pub WriteReplaces : Type 0
@@ -118,19 +119,19 @@ WriteReplaces = ReplacesWhere Has
 abbrev pub SetAllSets : Type 0
 SetAllSets = SetsWhere Has
 
--- CLAIM: a cycle that is no selected command changes REF and CHG at most, of its own segment's descriptor, only sets them, and only with
--- SUP off.
+-- CLAIM: every cycle but the three changes REF and CHG at most, of its own segment's descriptor, only sets them, and only with SUP off. So
+-- other commands, a write to another descriptor, and resets leave the whole descriptor.
 abbrev pub MarksExactly : Type 0
-MarksExactly = MarksWhere letThrough noCommand Has
+MarksExactly = MarksWhere letThrough spares Has
 
 -- CLAIM: a descriptor that is not there is not changed, so the three claims say nothing of it.
 abbrev pub HasNeeded : Type 0
-HasNeeded = (ReplacesWhere Anywhere → ⊥) × (SetsWhere Anywhere → ⊥) × (MarksWhere letThrough noCommand Anywhere → ⊥)
+HasNeeded = (ReplacesWhere Anywhere → ⊥) × (SetsWhere Anywhere → ⊥) × (MarksWhere letThrough spares Anywhere → ⊥)
 
--- CLAIM: a selected command may change more than REF and CHG.
+-- CLAIM: one of the three may change more than REF and CHG.
 abbrev pub CommandsExcluded : Type 0
-CommandsExcluded = MarksWhere letThrough (λ c. true) Has → ⊥
+CommandsExcluded = MarksWhere letThrough (λ u c i. true) Has → ⊥
 
 -- CLAIM: a translated cycle that is suppressed leaves REF and CHG.
 abbrev pub SuppressedMarksNot : Type 0
-SuppressedMarksNot = MarksWhere translated noCommand Has → ⊥
+SuppressedMarksNot = MarksWhere translated spares Has → ⊥

@@ -31,11 +31,11 @@ DmaLeavesNeeds = (RegistersStay ByDma → ⊥) × (RegistersStay NoReset → ⊥
 
 -- CLAIM: of the descriptors at most that of its own segment changes, where it is let through: REF is set, and CHG if it writes.
 abbrev pub DmaMarks : Type 0
-DmaMarks = MarksWhere letThrough (λ c. c .dma) Has
+DmaMarks = MarksWhere letThrough (λ u c i. c .dma) Has
 
 -- CLAIM: a descriptor that is not there is not changed.
 abbrev pub DmaMarksNeeds : Type 0
-DmaMarksNeeds = MarksWhere letThrough (λ c. c .dma) Anywhere → ⊥
+DmaMarksNeeds = MarksWhere letThrough (λ u c i. c .dma) Anywhere → ⊥
 
 -- the trap line is as the request stood
 abbrev pub TrapStays : (May : Cycle → Type 0) → Type 0

@@ -6,7 +6,7 @@ use mathlib.Core.List.{List, [], _∷_, _++_}
 use mathlib.Core.Logic.{_↔_}
 use Rattle.rules.specs.Bus.{cpu}
 use Rattle.rules.specs.PowerOn.{powerOn}
-use Rattle.rules.specs.Seen.{cycle}
+use Rattle.rules.specs.Seen.{segment, translating, cycle}
 use Rattle.rules.specs.Runs.{final}
 use Rattle.rules.specs.Step.{stepped}
 use Rattle.rules.specs.declared.Cycle.{Cycle}
@@ -94,14 +94,22 @@ holding = record {
   };
 }
 
+-- a unit with a read-only segment 0, and a CPU write to it
+abbrev pub guarded : Unit
+guarded = translating (segment 0 0xFF 0x01)
+
+abbrev pub fault : Cycle
+fault = cycle false false false 8 0 0
+
 -- the SUP of a data read of segment 0
 abbrev pub suppresses : Unit → Bool
 suppresses u = stepped u (cycle false true false 8 0 0) .answer .sup
 
--- CLAIM: each of the four does end it: after an acknowledge, a reset, a software reset or a fetch the next read is not suppressed. So none of
--- them can be left out above. The read itself is suppressed where none of them came.
+-- CLAIM: each of the four does end it: after a CPU violation a read that breaks nothing is suppressed, and no longer after an acknowledge, a
+-- reset, a software reset or a fetch. So none of them can be left out above.
 abbrev pub EachEndsHold : Type 0
 EachEndsHold =
-    (suppresses holding ≡ true)
-    × Every (λ c. (endsHold holding c ≡ true) × (suppresses (stepped holding c .unit) ≡ false))
+    let held : Unit = stepped guarded fault .unit in
+    (cpuViolation guarded fault ≡ true) × (suppresses held ≡ true)
+    × Every (λ c. (endsHold held c ≡ true) × (suppresses (stepped held c .unit) ≡ false))
     (written 4 0x00 0 false ∷ written 0 0x00 0 true ∷ written 3 0x10 0 false ∷ cycle false true false 13 0 0 ∷ [])

@@ -83,14 +83,25 @@ NarrowedInPlace = AfterWrites TableWrite WiderTable Narrower
 abbrev pub NarrowedAndPutBack : Type 0
 NarrowedAndPutBack = AfterWrites TableWrite (λ a b. WiderTable a b × SameSar a b × SameDscr a b) NarrowerInStep
 
--- CLAIM: so what is let through after a segment was narrowed, between two instructions or within one, would have been let through without it:
--- with no writes of %08 to %0F afterwards; or, where SAR and DSCR are put back, with those that turn no descriptor whose limits differ.
+-- whatever cycles come to the two, of those that may: the addresses are the same, and what the second suppresses the first does too, but for
+-- the cycles of an instruction whose fetch the first aborted
+abbrev pub OpensNothing : (May : Unit → Unit → Cycle → Type 0) → Unit → Unit → Type 0
+OpensNothing May a b = (cs : List Cycle) → AlongBoth May a b cs → CoversBut ofAborted false a b cs
+
+-- CLAIM: so what is let through after a segment was narrowed, between two instructions or within one, would have been let through without it,
+-- but for the cycles of an instruction whose fetch the narrowed unit aborted: with no writes of %08 to %0F afterwards; or, where SAR and DSCR
+-- are put back, with those that turn no descriptor whose limits differ.
 abbrev pub NarrowingOpensNothing : Type 0
 NarrowingOpensNothing =
-    AfterWrites TableWrite WiderTable (λ a b. (cs : List Cycle) → AlongBoth WritesNone a b cs → CoversBut ofAborted false a b cs)
-    × AfterWrites TableWrite (λ a b. WiderTable a b × SameSar a b × SameDscr a b)
-    (λ a b. (cs : List Cycle) → AlongBoth TurnsNone a b cs → CoversBut ofAborted false a b cs)
+    AfterWrites TableWrite WiderTable (OpensNothing WritesNone)
+    × AfterWrites TableWrite (λ a b. WiderTable a b × SameSar a b × SameDscr a b) (OpensNothing TurnsNone)
 
 -- CLAIM: neither can be left out: that only such writes come, and that they leave every descriptor as it was or tighter.
 abbrev pub NarrowedNeeds : Type 0
 NarrowedNeeds = (AfterWrites (λ c. true ≡ true) WiderTable Narrower → ⊥) × (AfterWrites TableWrite (λ a b. true ≡ true) Narrower → ⊥)
+
+-- CLAIM: where writes come afterwards, neither that SAR is put back, nor that DSCR is.
+abbrev pub PutBackNeeded : Type 0
+PutBackNeeded =
+    (AfterWrites TableWrite (λ a b. WiderTable a b × SameDscr a b) (OpensNothing TurnsNone) → ⊥)
+    × (AfterWrites TableWrite (λ a b. WiderTable a b × SameSar a b) (OpensNothing TurnsNone) → ⊥)

@@ -1,7 +1,7 @@
 -- `reader::shown` meets its contract: a walk of its MIR, by hand. The reader is taken apart, and `trace::part` is called on the trace and
 -- the number, with what the trace owns and the token of its lifetime, which comes back. All that the proof knows of `part` is its contract.
 -- Assumes nothing.
-use mathlib.Core.Path.{_≡_, refl}
+use mathlib.Core.Path.{refl}
 use Prim.Native.Nat.{ℕ, _<_, _^_}
 use mathlib.Core.List.{List, [], _∷_}
 use lib.Dec.{T as Holds}
@@ -26,7 +26,7 @@ use sound.WpLaws.{FmC, fmOf, WpFn-mono}
 use denote.RattleType.{RattleType, owns}
 use denote.Laws.{Is, shows}
 use denote.Builtin.{u8}
-use denote.Ref.{RefT, now}
+use denote.Ref.{RefT}
 use denote.Signature.{namedLft}
 use denote.Slice.{shr-slice-lawful}
 use denote.Steps.{peeks, heard, nothing}

@@ -1,7 +1,6 @@
 -- `script::parse::form_of` meets its contract: each arm has the form of its letter. Assumes nothing.
 use borrow.Author.Tests.{ne-eqb}
 use Rattle.script.specs.Said.{formOf}
-use borrow.Author.Needs.{needs}
 use Rattle.script.proofs.parse.form_of.Statement.{statement}
 use Rattle.script.proofs.parse.form_of.Tie as tie
 
