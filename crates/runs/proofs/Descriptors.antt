@@ -235,13 +235,22 @@ change-stays c k t j i puts n f g =
 change-stays c k t j i cpuis n f g = absurd (true≢false f)
 change-stays c k t j i dmais n f g = absurd (true≢false g)
 
+-- a cycle that is none of the three writes no byte at the place of descriptor i, and sets no flag in all
+apart : (u : Unit) (c : Cycle) (i : ℕ) → changes u c i ≡ false
+    → ((not (damaged (u .registers)) && descriptorWrite c) ≡ true → i ≡ place u c → ⊥)
+    × (writesHere 0x15 u c ≡ false) × (writesHere 0x16 u c ≡ false)
+apart u c i f =
+    let w : (writesTo u c i || writesHere 0x15 u c) ≡ false = or-l (writesTo u c i || writesHere 0x15 u c) _ f in (
+      λ h q. true≢false (sym (rw h (eq-eqb _ _ (sym (q ∙ command-place u c h)))) ∙ or-l (writesTo u c i) _ w),
+      or-r (writesTo u c i) _ w,
+      or-r (writesTo u c i || writesHere 0x15 u c) _ f,
+    )
+
 pub descriptors-stay : DescriptorsStay
 unfolding after
 descriptors-stay u c i f =
-    let w : (writesTo u c i || writesHere 0x15 u c) ≡ false = or-l (writesTo u c i || writesHere 0x15 u c) _ f in
-    change-stays c (byteIn u c) (u .table) (place u c) i (alters u c)
-    (λ h q. true≢false (sym (rw h (eq-eqb _ _ (sym (q ∙ command-place u c h)))) ∙ or-l (writesTo u c i) _ w))
-    (or-r (writesTo u c i) _ w) (or-r (writesTo u c i || writesHere 0x15 u c) _ f)
+    let n = apart u c i f in
+    change-stays c (byteIn u c) (u .table) (place u c) i (alters u c) (n .0) (n .1) (n .2)
 
 pub descriptors-stay-throughout : DescriptorsStayThroughout
 unfolding units Along
@@ -322,11 +331,8 @@ spares-all u c i q =
 pub marks-exactly : MarksExactly
 unfolding after
 marks-exactly u c i s n =
-    let f : changes u c i ≡ false = not-true (changes u c i) n in
-    let w : (writesTo u c i || writesHere 0x15 u c) ≡ false = or-l (writesTo u c i || writesHere 0x15 u c) _ f in
-    change-marks c (byteIn u c) (u .table) (place u c) i (alters u c)
-    (λ h q. true≢false (sym (rw h (eq-eqb _ _ (sym (q ∙ command-place u c h)))) ∙ or-l (writesTo u c i) _ w))
-    (or-r (writesTo u c i) _ w) (or-r (writesTo u c i || writesHere 0x15 u c) _ f) s
+    let a = apart u c i (not-true (changes u c i) n) in
+    change-marks c (byteIn u c) (u .table) (place u c) i (alters u c) (a .0) (a .1) (a .2) s
     ∙ ap (λ (b : Bool). cond b (touched (descriptor u i) c) (descriptor u i)) (go (letThrough u c) refl)
   where
     go : (b : Bool) → letThrough u c ≡ b → (b && eqb i (place u c)) ≡ (b && eqb i (c .segment % 64))

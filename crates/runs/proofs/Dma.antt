@@ -10,7 +10,7 @@ use Rattle.rules.specs.Flags.{has}
 use Rattle.rules.specs.Masks.{RD, TRNS}
 use Rattle.rules.specs.PowerOn.{none, powerOn}
 use Rattle.rules.specs.Refusals.{damaged, outOfRange, off, plain, refused}
-use Rattle.rules.specs.Seen.{segment, faults, noNote, cycle, command, unitOf, unitWith, acknowledge as acknowledges}
+use Rattle.rules.specs.Seen.{segment, faults, notes, noNote, cycle, command, unitOf, unitWith, acknowledge as acknowledges}
 use Rattle.rules.specs.Status.{resetBy, ignored, purposeOf, byPurpose, byStatus}
 use Rattle.rules.specs.Recording.{eventOf, recorded}
 use Rattle.rules.specs.Memory.{seen, begun, noted, checked, accessed, aborted, untranslated, memoryBy, aborts, memory}
@@ -29,7 +29,6 @@ use Rattle.runs.specs.Answers.{awaited, kindBy, driven, breaks, heldBack
 use Rattle.runs.specs.Cycles.{selectedCommand, acknowledge, memoryCycle, fetches, passingConditions, translationConditions}
 use Rattle.runs.specs.Dma.{SameSegment, DmaLeaves, DmaLeavesNeeds, DmaMarks, DmaTrap, DmaAnswers, DmaAnswersNeed}
 use Rattle.runs.specs.Dma.{DmaMarksNeeds, DmaTrapNeeds}
-use Rattle.runs.specs.Hold.{holding}
 use Rattle.runs.specs.Refusal.{earliest, unlisted, wrongWay, admitted}
 use Rattle.runs.specs.Trap.{requesting}
 use Rattle.runs.proofs.Answers.{fails, kind-exactly, address-exactly, sup-exactly}
@@ -222,6 +221,9 @@ dma-marks-needs claim = true≢false (ap (λ (d : Descriptor). eqb (d .attribute
 whole : Unit
 whole = unitWith 0x80 0 none
 
+held : Unit
+held = unitOf 0 0 0 (faults 0 0 0 0) 0 0 (notes false false false true) 0 none
+
 broken : Unit
 broken = unitOf 0x80 64 0 (faults 0 0 0 0) 0 0 noNote 0 none
 
@@ -229,11 +231,11 @@ withFlags : (attributes : ℕ) → Unit
 withFlags a = unitWith 0xC0 0 (segment 0 0xFF a)
 
 pub dma-answers-need : DmaAnswersNeed
-unfolding dmaWrite whole broken withFlags computed
+unfolding dmaWrite whole held broken withFlags computed
 dma-answers-need = (
   λ claim. false≢true (ap (λ (l : Lines). l .driven) (claim broken whole (dmaWrite false) (refl, refl, refl, refl) .lines)),
   λ claim. true≢false (ap (λ (l : Lines). l .driven) (claim whole broken (dmaWrite false) (refl, refl, refl, refl) .lines)),
-  λ claim. true≢false (claim holding powerOn (cycle false false false 8 0 0) (refl, refl, refl, refl) .sup),
+  λ claim. true≢false (claim held powerOn (cycle false false false 8 0 0) (refl, refl, refl, refl) .sup),
   λ claim. true≢false (ap (λ (l : Lines). l .driven) (claim whole powerOn (dmaWrite false) (refl, refl, refl, refl) .lines)),
   λ claim. true≢false (claim (withFlags RD) (withFlags 0) (dmaWrite false) (refl, refl, refl, refl) .sup),
 )

@@ -18,7 +18,7 @@ use Rattle.rules.specs.declared.Cycle.{Cycle}
 use Rattle.rules.specs.declared.Descriptor.{Descriptor}
 use Rattle.rules.specs.declared.Unit.{Unit}
 use Rattle.runs.specs.Answers.{translated}
-use Rattle.runs.specs.Cycles.{selectedCommand, descriptorWrite, writes}
+use Rattle.runs.specs.Cycles.{descriptorWrite, writes}
 use Rattle.runs.specs.Sequences.{Every, Along}
 
 -- descriptor i of a unit

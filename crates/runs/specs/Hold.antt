@@ -82,18 +82,6 @@ SupLasts = LastsAfter cpuViolation
 abbrev pub DmaLastsNot : Type 0
 DmaLastsNot = LastsAfter violation → ⊥
 
--- a unit whose hold stands, all else as at power-on
-abbrev pub holding : Unit
-holding = record {
-  table = powerOn .table;
-  registers = record {
-    control = powerOn .registers .control;
-    faults = powerOn .registers .faults;
-    fetched = powerOn .registers .fetched;
-    notes = record { request = false; awaits = false; own = false; hold = true };
-  };
-}
-
 -- a unit with a read-only segment 0, and a CPU write to it
 abbrev pub guarded : Unit
 guarded = translating (segment 0 0xFF 0x01)
