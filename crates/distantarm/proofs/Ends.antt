@@ -6,7 +6,7 @@ use mathlib.Core.List.{List}
 use Prim.Native.Nat.{ℕ}
 use Rattle.rules.specs.declared.Cycle.{Cycle}
 use Rattle.distantarm.specs.Interface.{noUnit, startNumber, startBytes, PoweredOn, noRoom}
-use Rattle.turn.specs.Turned.{Cycled}
+use Rattle.unit_bytes.specs.Cycled.{Cycled}
 
 -- power-on, by its one test
 pub powered : {l m : List ℕ} {number : ℕ} (b : Bool) → noUnit l ≡ b → number ≡ startNumber b → m ≡ startBytes b l → PoweredOn l m number

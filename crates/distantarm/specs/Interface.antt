@@ -8,8 +8,8 @@ use lib.ListN.{length}
 use lib.Seq.{sets}
 use Rattle.rules.specs.PowerOn.{powerOn}
 use Rattle.rules.specs.declared.Cycle.{Cycle}
-use Rattle.snapshot.specs.Snapshot.{bytesOf}
-use Rattle.turn.specs.Turned.{Cycled}
+use Rattle.unit_bytes.specs.Snapshot.{bytesOf}
+use Rattle.unit_bytes.specs.Cycled.{Cycled}
 
 -- a buffer without room for a unit, or for a packed answer
 abbrev pub noUnit : List ℕ → Bool

@@ -1,6 +1,6 @@
 // The C interface: a unit in bytes that the caller keeps, stepped cycle by cycle, and the text of a whole trace. It keeps no state, and
 // no call asks anything of its caller. `include/distantarm.h` declares these functions for C.
-ghost use Rattle.listing.specs.Listed.{Listed};
+ghost use Rattle.text.specs.Listed.{Listed};
 ghost use Rattle.distantarm.specs.Interface.{PoweredOn, Called, given};
 use rules::Cycle;
 use rules::Unit;
@@ -11,12 +11,12 @@ use run::NO_ROOM;
 pub extern "C" fn distantarm_power_on(unit: &mut [u8]) -> u8
     ensures { λ r. ⌜ PoweredOn (now (unit .entry)) (now (unit .exit)) r ⌝ }
 {
-    let narrow = unit.len() < snapshot::BYTES;
+    let narrow = unit.len() < unit_bytes::snapshot::BYTES;
     if narrow {
         return NO_ROOM;
     }
     let u = Unit::power_on();
-    snapshot::put_unit(unit, u);
+    unit_bytes::snapshot::put_unit(unit, u);
     0
 }
 
@@ -39,7 +39,7 @@ pub extern "C" fn distantarm_cycle(
     ensures { λ r. ⌜ Called (given status read normal dma select segment offset byte reset)
         (now (unit .entry)) (now (answer .entry)) (now (unit .exit)) (now (answer .exit)) r ⌝ }
 {
-    let narrow = (unit.len() < snapshot::BYTES) | (answer.len() < pack::BYTES);
+    let narrow = (unit.len() < unit_bytes::snapshot::BYTES) | (answer.len() < unit_packed::BYTES);
     if narrow {
         return NO_ROOM;
     }
@@ -54,14 +54,14 @@ pub extern "C" fn distantarm_cycle(
         byte,
         reset,
     };
-    turn::turn(unit, answer, c)
+    unit_bytes::cycle::cycled(unit, answer, c)
 }
 
-// The text of a trace, as mmurun prints it, and its length. A buffer that is shorter than listing::ROOM is left as it was, and the answer
+// The text of a trace, as mmurun prints it, and its length. A buffer that is shorter than text::listing::ROOM is left as it was, and the answer
 // is 0.
 #[no_mangle]
 pub extern "C" fn distantarm_list(trace: &[u8], text: &mut [u8]) -> usize
     ensures { λ r. ⌜ Listed (now (trace .entry)) (now (text .entry)) (now (text .exit)) r ⌝ }
 {
-    listing::list(trace, text)
+    text::listing::list(trace, text)
 }

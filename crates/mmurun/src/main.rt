@@ -3,8 +3,8 @@ ghost use mathlib.Core.Path.{_≡_};
 ghost use Prim.Native.Nat.{_≤_};
 ghost use lib.ListN.{length};
 ghost use lib.Seq.{sets};
-ghost use Rattle.listing.specs.Listed.{room};
-ghost use Rattle.listing.specs.Text.{printed};
+ghost use Rattle.text.specs.Listed.{room};
+ghost use Rattle.text.specs.Text.{printed};
 use libc::STDIN_FILENO;
 use libc::STDOUT_FILENO;
 
@@ -21,15 +21,15 @@ fn show(trace: &[u8], text: &mut [u8])
     requires { ⌜ room ≤ length (now text) ⌝ }
     ensures { λ _. ⌜ now (text .exit) ≡ sets (now (text .entry)) 0 (printed (now (trace .entry))) ⌝ }
 {
-    let n = listing::list(trace, text);
+    let n = text::listing::list(trace, text);
     write_text(trace, &text[..n]);
 }
 
 // Room for the longest text. An array of this size in `main` itself would make its proof slow.
-fn room() -> [u8; listing::ROOM]
+fn room() -> [u8; text::listing::ROOM]
     ensures { λ r. ⌜ length r ≡ room ⌝ }
 {
-    [0; listing::ROOM]
+    [0; text::listing::ROOM]
 }
 
 // The longest good trace has 64,007 bytes. Of a longer input the first 65,536 bytes are read, and their text is that of the whole

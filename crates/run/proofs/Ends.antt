@@ -9,13 +9,13 @@ use lib.Dec.{eqb}
 use lib.ListN.{length}
 use lib.Seq.{sets}
 use borrow.Author.Tests.{eqb-true, eqb-false, not-true, not-false, le-ltb}
-use Rattle.header.specs.Header.{refusalOf}
-use Rattle.header.proofs.Taken.{taken}
-use Rattle.pack.specs.Packed.{width, bytesOf}
+use Rattle.trace_header.specs.Header.{refusalOf}
+use Rattle.trace_header.proofs.Taken.{taken}
+use Rattle.unit_packed.specs.Packed.{width, bytesOf}
 use Rattle.rules.specs.PowerOn.{powerOn}
 use Rattle.rules.specs.Runs.{answers}
-use Rattle.trace.specs.Trace.{givenOf, cyclesOf}
-use Rattle.trace.proofs.Within.{all-given}
+use Rattle.trace_records.specs.Trace.{givenOf, cyclesOf}
+use Rattle.trace_records.proofs.Within.{all-given}
 use Rattle.run.specs.Run.{room, numberBy, bufferBy, refused, narrow, Ran}
 
 -- all records of a trace that is taken lie within it

@@ -15,9 +15,9 @@ use Rattle.rules.specs.declared.Cycle.{Cycle}
 use Rattle.rules.specs.declared.Decision.{Decision}
 use Rattle.rules.specs.declared.Descriptor.{Descriptor}
 use Rattle.rules.specs.declared.Unit.{Unit}
-use Rattle.trace.specs.Trace.{recordAt, cycleOf, cyclesTo}
-use Rattle.stores.proofs.Laws.{sets-append}
-use Rattle.pack.specs.Packed.{packed, bytesOf}
+use Rattle.trace_records.specs.Trace.{recordAt, cycleOf, cyclesTo}
+use Rattle.unit_stores.proofs.Laws.{sets-append}
+use Rattle.unit_packed.specs.Packed.{packed, bytesOf}
 use Rattle.run.specs.Run.{ranTo}
 
 -- ---- one cycle more

@@ -6,11 +6,11 @@ use Prim.Native.Nat.{ℕ, _*_}
 use lib.Dec.{eqb, ltb}
 use lib.ListN.{length}
 use lib.Seq.{sets}
-use Rattle.header.specs.Header.{refusalOf}
-use Rattle.pack.specs.Packed.{width, bytesOf}
+use Rattle.trace_header.specs.Header.{refusalOf}
+use Rattle.unit_packed.specs.Packed.{width, bytesOf}
 use Rattle.rules.specs.PowerOn.{powerOn}
 use Rattle.rules.specs.Runs.{answers}
-use Rattle.trace.specs.Trace.{givenOf, cyclesTo, cyclesOf}
+use Rattle.trace_records.specs.Trace.{givenOf, cyclesTo, cyclesOf}
 
 -- the bytes of the answers of the longest trace, which has 16,000 records
 abbrev pub room : ℕ

@@ -2,22 +2,22 @@
 ghost use mathlib.Core.Path.{_≡_};
 ghost use Prim.Native.Nat.{_*_, _+_, _≤_};
 ghost use lib.ListN.{length};
-ghost use Rattle.pack.specs.Packed.{width};
-ghost use Rattle.trace.specs.Trace.{recordAt, cycleOf};
+ghost use Rattle.unit_packed.specs.Packed.{width};
+ghost use Rattle.trace_records.specs.Trace.{recordAt, cycleOf};
 ghost use Rattle.run.specs.Run.{ranTo, Ran};
-use header::HEAD;
-use header::MOST;
-use header::RECORD;
-use header::refusal;
 use rules::Change;
 use rules::Cycle;
 use rules::Unit;
-use trace::count;
-use trace::decode;
-use unit::table;
+use trace_header::HEAD;
+use trace_header::MOST;
+use trace_header::RECORD;
+use trace_header::refusal;
+use trace_records::count;
+use trace_records::decode;
+use unit_step::table;
 
 // The bytes of the answers of the longest trace.
-pub const ROOM: usize = pack::BYTES * MOST;
+pub const ROOM: usize = unit_packed::BYTES * MOST;
 
 // The number that says that the buffer has no room for all answers.
 pub const NO_ROOM: u8 = 255;
@@ -41,11 +41,11 @@ fn run_to(trace: &[u8], count: usize, out: &mut [u8])
     let mut r = u.registers;
     for n in 0..count {
         let c = cycle_at(trace, n);
-        let i = (decide::place_of(r, c) % Unit::SEGMENTS) as usize;
+        let i = (unit_decide::place_of(r, c) % Unit::SEGMENTS) as usize;
         let d = table[i];
-        let p = decide::act(r, d, c);
+        let p = unit_decide::act(r, d, c);
         let a = p.answer;
-        pack::put(out, pack::BYTES * n, a);
+        unit_packed::put(out, unit_packed::BYTES * n, a);
         let after = p.registers;
         r = after;
         let h = p.change;
@@ -72,7 +72,7 @@ pub fn run(trace: &[u8], out: &mut [u8]) -> u8
         return no;
     }
     let n = count(trace);
-    let narrow = out.len() < pack::BYTES * n;
+    let narrow = out.len() < unit_packed::BYTES * n;
     if narrow {
         return NO_ROOM;
     }

@@ -1,18 +1,18 @@
--- `distantarm::distantarm_cycle` meets its contract: one test of both lengths, and a turn where both buffers have room. Assumes nothing.
+-- `distantarm::distantarm_cycle` meets its contract: one test of both lengths, and the cycle where both buffers have room. Assumes nothing.
 use mathlib.Core.Path.{refl}
 use mathlib.Core.Bool.{true, false}
 use Prim.Native.Nat.{ℕ}
 use lib.Dec.{ltb}
 use lib.ListN.{length}
 use borrow.Author.Tests.{ltb-false}
-use Rattle.runs.proofs.Tests.{or-l, or-r}
+use Rattle.theorems_runs.proofs.Tests.{or-l, or-r}
 use Rattle.distantarm.proofs.Ends.{roomy}
 use borrow.Author.Needs.{needs}
 use Rattle.distantarm.proofs.distantarm_cycle.Statement.{statement}
 use Rattle.distantarm.proofs.distantarm_cycle.Tie as tie
 
-turn-requires : tie.Need-turn-requires
-turn-requires c κs =
+cycled-requires : tie.Need-cycled-requires
+cycled-requires c κs =
     let start = c .before .before .before .before .before .args in
     let unit : ℕ = length (start .unit .now) in
     let answer : ℕ = length (start .answer .now) in
@@ -21,14 +21,14 @@ turn-requires c κs =
 
 returns-2 : tie.Need-returns-2
 returns-2 c =
-    let turn = c .before .before .before .before in
-    roomy false (turn .before .before .before .if1 .left) (turn .turn .ensures)
+    let cycled = c .before .before .before .before in
+    roomy false (cycled .before .before .before .if1 .left) (cycled .cycled .ensures)
 
 pub distantarm-cycle-spec : {M : Type 1} → statement M
 distantarm-cycle-spec = tie.close
     (tie.spec
     (λ c. roomy true (c .if1 .taken) (record { says = refl; shows = refl; leaves = refl }))
-    turn-requires
+    cycled-requires
     (λ c. search needs)
     (λ c. search needs)
     returns-2)

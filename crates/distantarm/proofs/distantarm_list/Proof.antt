@@ -1,4 +1,4 @@
--- `distantarm::distantarm_list` meets its contract: it is `listing::list`'s. Assumes nothing.
+-- `distantarm::distantarm_list` meets its contract: it is `text::listing::list`'s. Assumes nothing.
 use borrow.Author.Needs.{needs}
 use Rattle.distantarm.proofs.distantarm_list.Statement.{statement}
 use Rattle.distantarm.proofs.distantarm_list.Tie as tie

@@ -3,7 +3,7 @@ use mathlib.Core.Path.{refl, ap, _∙_}
 use mathlib.Core.Bool.{true, false}
 use lib.Seq.{sets}
 use Rattle.rules.specs.declared.Unit.{Unit}
-use Rattle.snapshot.specs.Snapshot.{bytesOf}
+use Rattle.unit_bytes.specs.Snapshot.{bytesOf}
 use Rattle.distantarm.proofs.Ends.{powered}
 use borrow.Author.Needs.{needs}
 use Rattle.distantarm.proofs.distantarm_power_on.Statement.{statement}

@@ -4,8 +4,8 @@ use mathlib.Core.Path.{ap, _∙_}
 use denote.Ref.{now}
 use lib.ListN.{length}
 use borrow.Author.Tests.{le-ltb}
-use Rattle.listing.specs.Listed.{room, filled}
-use Rattle.listing.proofs.Whole.{listed}
+use Rattle.text.specs.Listed.{room, filled}
+use Rattle.text.proofs.Whole.{listed}
 use borrow.Author.Needs.{needs}
 use Rattle.mmurun.proofs.show.Statement.{statement}
 use Rattle.mmurun.proofs.show.Tie as tie

@@ -4,7 +4,7 @@ use Prim.Native.Nat.{ℕ, _+_, _*_}
 use native.Mathlib.Nat.{add-sub-cancel-left}
 use denote.Ref.{now}
 use lib.ListN.{take, drop}
-use Rattle.trace.specs.Trace.{cycleOf}
+use Rattle.trace_records.specs.Trace.{cycleOf}
 use borrow.Author.Needs.{needs}
 use Rattle.run.proofs.cycle_at.Statement.{statement}
 use Rattle.run.proofs.cycle_at.Tie as tie

@@ -6,7 +6,7 @@ use native.Mathlib.Omega.{arith}
 use denote.Ref.{now}
 use lib.ListN.{length}
 use borrow.Author.Tests.{eqb-true, not-false, ltb-false}
-use Rattle.header.specs.Header.{refusalOf}
+use Rattle.trace_header.specs.Header.{refusalOf}
 use Rattle.run.specs.Run.{ranTo, refused, narrow}
 use Rattle.run.proofs.Ends.{fits, ends}
 use borrow.Author.Needs.{needs}

@@ -6,7 +6,7 @@ use Prim.Native.Nat.{ℕ, _+_, _*_, _-_, _%_, _≤_}
 use native.Mathlib.Omega.{arith}
 use lib.ListN.{length, getD}
 use lib.Seq.{length-sets}
-use Rattle.pack.specs.Packed.{packed, bytesOf}
+use Rattle.unit_packed.specs.Packed.{packed, bytesOf}
 use Rattle.rules.specs.PowerOn.{none}
 use Rattle.rules.specs.Runs.{answers, final}
 use Rattle.rules.specs.Step.{decided, placeOf, changed, place, decision}
@@ -15,7 +15,7 @@ use Rattle.rules.specs.declared.Cycle.{Cycle}
 use Rattle.rules.specs.declared.Decision.{Decision}
 use Rattle.rules.specs.declared.Descriptor.{Descriptor}
 use Rattle.rules.specs.declared.Unit.{Unit}
-use Rattle.trace.specs.Trace.{cyclesTo}
+use Rattle.trace_records.specs.Trace.{cyclesTo}
 use Rattle.run.specs.Run.{ranTo}
 use Rattle.run.proofs.Turns.{unitAt, cycleAt, turned, stored}
 use borrow.Author.Needs.{needs}

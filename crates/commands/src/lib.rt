@@ -1,2 +1,0 @@
-// The selected commands, one by one.
-pub mod single;

@@ -1,2 +1,0 @@
-// The descriptor commands: the byte that moves, and what DSCR and SAR become.
-pub mod entry;

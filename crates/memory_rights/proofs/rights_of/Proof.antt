@@ -1,0 +1,26 @@
+-- `memory_rights::rights_of` meets its contract: each answer follows from the tests on its way and what the calls ensure. Assumes nothing.
+use mathlib.Core.Path.{sym}
+use Rattle.memory_rights.proofs.Unprotected.{unprotected}
+use Rattle.rules.specs.Checks.{rightsOf}
+use borrow.Author.Needs.{needs}
+use Rattle.memory_rights.proofs.rights_of.Statement.{statement}
+use Rattle.memory_rights.proofs.rights_of.Tie as tie
+
+pub rights-of-spec : {M : Type 1} → statement M
+unfolding rightsOf
+rights-of-spec =
+    tie.close
+    (tie.spec
+    (λ c. sym (unprotected (c .before .args .a) (c .before .args .c) (c .if1 .taken)))
+    (λ c κs. search needs)
+    (λ c κs. search needs)
+    (λ c κs. search needs)
+    (λ c κs. search needs)
+    (λ c κs. search needs)
+    (λ c. simp (
+      ← c .before .before .before .before .before .before .before .flag-if .ensures,
+      ← c .before .before .before .before .before .flag-if2 .ensures,
+      ← c .before .before .before .flag-if3 .ensures,
+      ← c .before .before .flag-if4 .ensures,
+      ← c .flag-if5 .ensures,
+    )))

@@ -1,0 +1,33 @@
+-- `memory_translation::way_of` meets its contract: each answer follows from the tests on its way and what the calls ensure. Assumes nothing.
+use Rattle.rules.specs.Translation.{wayOf}
+use Rattle.memory_translation.proofs.way_of.Statement.{statement}
+use Rattle.memory_translation.proofs.way_of.Tie as tie
+
+pub way-of-spec : {M : Type 1} → statement M
+unfolding wayOf
+way-of-spec =
+    tie.close
+    (tie.spec
+    (λ c. simp (c .if1 .taken))
+    (λ c. simp (c .if2 .taken, c .before .if1 .left))
+    (λ c. simp (
+      c .if4 .taken,
+      c .before .if3 .taken,
+      c .before .before .before .if2 .left,
+      c .before .before .before .before .if1 .left,
+    ))
+    (λ c. simp (
+      c .if5 .taken,
+      c .before .before .if4 .left,
+      c .before .before .before .if3 .taken,
+      c .before .before .before .before .before .if2 .left,
+      c .before .before .before .before .before .before .if1 .left,
+    ))
+    (λ c. simp (
+      c .if5 .left,
+      c .before .before .if4 .left,
+      c .before .before .before .if3 .taken,
+      c .before .before .before .before .before .if2 .left,
+      c .before .before .before .before .before .before .if1 .left,
+    ))
+    (λ c. simp (c .if3 .left, c .before .before .if2 .left, c .before .before .before .if1 .left)))

@@ -1,0 +1,31 @@
+-- `test_script::replay` is safe and ends: each turn passes a line. Assumes nothing.
+use Prim.Native.Nat.{_-_}
+use borrow.Author.Needs.{needs}
+use lib.ListN.{length}
+use Rattle.test_script.proofs.replay.Statement.{statement}
+use Rattle.test_script.proofs.replay.Tie as tie
+
+abbrev Inv-loop : tie.InvT-loop
+Inv-loop script unit₀ from₀ unit from = Unit {0}
+
+abbrev μ-loop : tie.MeasureT-loop
+μ-loop script unit₀ from₀ unit from = length script - from
+
+pub replay-spec : {M : Type 1} → statement M
+replay-spec =
+    tie.close
+    (tie.spec
+    Inv-loop
+    μ-loop
+    (λ c. search needs)
+    (λ c. search needs)
+    (λ c κs. search needs)
+    (λ c. search needs)
+    (λ c. search needs)
+    (λ c. search needs)
+    (λ c κs. search needs)
+    (λ c κs. search needs)
+    (λ c. search needs)
+    (λ c. search needs)
+    (λ c. search needs)
+    (λ c. search needs))

@@ -1,0 +1,55 @@
+-- Document 01's sample, computed: the input's bytes, and the text that it shows.
+-- Assumes nothing.
+use mathlib.Core.Path.{_≡_, refl}
+use mathlib.Core.List.{List, [], _∷_}
+use Prim.Native.Nat.{ℕ}
+use Rattle.rules.specs.Checks.{rightsOf, outOfLength, warns}
+use Rattle.rules.specs.Codes.{commandOf}
+use Rattle.rules.specs.Commands.{given, controlled, programmed, entry, cleared, restarted, acted, executed, commanded}
+use Rattle.rules.specs.Entry.{byteOf, replaced, indexOf, nextCounter, nextSegment, moved, writtenBy}
+use Rattle.rules.specs.Memory.{seen, resumed, aborted, begun, untranslated, touched, touchedBy, noted, checked}
+use Rattle.rules.specs.Memory.{accessed, memory}
+use Rattle.rules.specs.Recording.{eventOf, busStatus, firstEntry, added, raised, recorded}
+use Rattle.rules.specs.Refusals.{damaged, outOfRange, plain, refused}
+use Rattle.rules.specs.Runs.{answers, final}
+use Rattle.rules.specs.Status.{resetBy, acknowledgeByte, quieted, acknowledged, ignored, purposeOf, byStatus}
+use Rattle.rules.specs.Step.{decided, placeOf, changed, decision, after}
+use Rattle.rules.specs.Translation.{wayOf, blockOf, linesOf}
+use Rattle.trace_header.specs.Header.{marked, pair, refusalOf}
+use Rattle.text.specs.Fields.{kindText, opening, addressText, byteText, signals, headText, refusalText}
+use Rattle.text.specs.Text.{line, printed}
+use Rattle.text.specs.Digits.{decimal, digit}
+use Rattle.trace_records.specs.Trace.{givenOf, recordRefusalOf, partOf, cycleOf, cyclesTo}
+
+-- "4D 42 54 00 01 00 09, then 830000C0 83000B23 83000B11 83000B20 83000B01 18001500 28001500 93000200 14000000"
+pub input : List ℕ
+input =
+    77 ∷ 66 ∷ 84 ∷ 0 ∷ 1 ∷ 0 ∷ 9
+    ∷ 131 ∷ 0 ∷ 0 ∷ 192
+    ∷ 131 ∷ 0 ∷ 11 ∷ 35
+    ∷ 131 ∷ 0 ∷ 11 ∷ 17
+    ∷ 131 ∷ 0 ∷ 11 ∷ 32
+    ∷ 131 ∷ 0 ∷ 11 ∷ 1
+    ∷ 24 ∷ 0 ∷ 21 ∷ 0
+    ∷ 40 ∷ 0 ∷ 21 ∷ 0
+    ∷ 147 ∷ 0 ∷ 2 ∷ 0
+    ∷ 20 ∷ 0 ∷ 0 ∷ 0 ∷ []
+
+-- the ten lines, each with its line feed
+pub output : List ℕ
+output =
+    77 ∷ 66 ∷ 84 ∷ 32 ∷ 49 ∷ 32 ∷ 57 ∷ 10
+    ∷ 48 ∷ 32 ∷ 67 ∷ 32 ∷ 45 ∷ 45 ∷ 45 ∷ 45 ∷ 32 ∷ 48 ∷ 32 ∷ 48 ∷ 32 ∷ 45 ∷ 45 ∷ 10
+    ∷ 49 ∷ 32 ∷ 67 ∷ 32 ∷ 45 ∷ 45 ∷ 45 ∷ 45 ∷ 32 ∷ 48 ∷ 32 ∷ 48 ∷ 32 ∷ 45 ∷ 45 ∷ 10
+    ∷ 50 ∷ 32 ∷ 67 ∷ 32 ∷ 45 ∷ 45 ∷ 45 ∷ 45 ∷ 32 ∷ 48 ∷ 32 ∷ 48 ∷ 32 ∷ 45 ∷ 45 ∷ 10
+    ∷ 51 ∷ 32 ∷ 67 ∷ 32 ∷ 45 ∷ 45 ∷ 45 ∷ 45 ∷ 32 ∷ 48 ∷ 32 ∷ 48 ∷ 32 ∷ 45 ∷ 45 ∷ 10
+    ∷ 52 ∷ 32 ∷ 67 ∷ 32 ∷ 45 ∷ 45 ∷ 45 ∷ 45 ∷ 32 ∷ 48 ∷ 32 ∷ 48 ∷ 32 ∷ 45 ∷ 45 ∷ 10
+    ∷ 53 ∷ 32 ∷ 84 ∷ 32 ∷ 50 ∷ 51 ∷ 50 ∷ 54 ∷ 32 ∷ 48 ∷ 32 ∷ 48 ∷ 32 ∷ 45 ∷ 45 ∷ 10
+    ∷ 54 ∷ 32 ∷ 84 ∷ 32 ∷ 50 ∷ 51 ∷ 50 ∷ 54 ∷ 32 ∷ 49 ∷ 32 ∷ 49 ∷ 32 ∷ 45 ∷ 45 ∷ 10
+    ∷ 55 ∷ 32 ∷ 67 ∷ 32 ∷ 45 ∷ 45 ∷ 45 ∷ 45 ∷ 32 ∷ 48 ∷ 32 ∷ 49 ∷ 32 ∷ 48 ∷ 49 ∷ 10
+    ∷ 56 ∷ 32 ∷ 65 ∷ 32 ∷ 45 ∷ 45 ∷ 45 ∷ 45 ∷ 32 ∷ 48 ∷ 32 ∷ 48 ∷ 32 ∷ 48 ∷ 49 ∷ 10
+    ∷ []
+
+pub sample : printed input ≡ output
+unfolding input output rightsOf outOfLength warns commandOf given controlled programmed entry cleared restarted acted executed commanded byteOf replaced indexOf nextCounter nextSegment moved writtenBy seen resumed aborted begun untranslated touched touchedBy noted checked accessed memory eventOf busStatus firstEntry added raised recorded damaged outOfRange plain refused answers final resetBy acknowledgeByte quieted acknowledged ignored purposeOf byStatus decided placeOf changed decision after wayOf blockOf linesOf marked pair refusalOf kindText opening addressText byteText signals headText refusalText line printed decimal digit givenOf recordRefusalOf partOf cycleOf cyclesTo
+sample = refl

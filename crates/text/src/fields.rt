@@ -1,0 +1,87 @@
+// The fields of a line of the text. Each function puts some bytes at an index and answers the index after them.
+ghost use mathlib.Core.Path.{_≡_};
+ghost use Prim.Native.Nat.{_+_, _<_, _≤_};
+ghost use lib.ListN.{length};
+ghost use Rattle.rules.specs.Flags.{has};
+ghost use Rattle.unit_stores.specs.Put.{Put};
+ghost use Rattle.text.specs.Digits.{beyond};
+ghost use Rattle.text.specs.Fields.{kindText, opening, addressText, bitText, byteText, signals};
+use crate::numbers::put_dashes;
+use crate::numbers::put_decimal;
+use crate::numbers::put_two;
+use unit_stores::put;
+
+// A kind's letter, and its number unless that is 0.
+pub fn put_kind(out: &mut [u8], at: usize, letter: u8, number: u8) -> usize
+    requires { ⌜ at + 6 ≤ length (now out) ⌝ }
+    ensures { λ r. ⌜ Put (now (out .entry)) at (kindText letter number) (now (out .exit)) r ⌝ }
+    ensures { λ r. ⌜ r ≤ at + 6 ⌝ }
+{
+    let p = put(out, at, letter);
+    let plain = number == 0;
+    if plain {
+        return p;
+    }
+    put_decimal(out, p, number as usize)
+}
+
+// A record's number and its kind.
+pub fn put_opening(out: &mut [u8], at: usize, n: usize, letter: u8, number: u8) -> usize
+    requires { ⌜ (at + 13 ≤ length (now out)) × (n < beyond) ⌝ }
+    ensures { λ r. ⌜ Put (now (out .entry)) at (opening n letter number) (now (out .exit)) r ⌝ }
+    ensures { λ r. ⌜ r ≤ at + 13 ⌝ }
+{
+    let p1 = put_decimal(out, at, n);
+    let p2 = put(out, p1, b' ');
+    let p3 = put_kind(out, p2, letter, number);
+    put(out, p3, b' ')
+}
+
+// The address lines, or dashes.
+pub fn put_address(out: &mut [u8], at: usize, driven: bool, high: u8, low: u8) -> usize
+    requires { ⌜ at + 4 ≤ length (now out) ⌝ }
+    ensures { λ r. ⌜ Put (now (out .entry)) at (addressText driven high low) (now (out .exit)) r ⌝ }
+    ensures { λ r. ⌜ r ≤ at + 4 ⌝ }
+{
+    if driven {
+        let p = put_two(out, at, high);
+        return put_two(out, p, low);
+    }
+    let p = put_dashes(out, at);
+    put_dashes(out, p)
+}
+
+// The data byte, or dashes.
+fn put_byte(out: &mut [u8], at: usize, driven: bool, byte: u8) -> usize
+    requires { ⌜ at + 2 ≤ length (now out) ⌝ }
+    ensures { λ r. ⌜ Put (now (out .entry)) at (byteText driven byte) (now (out .exit)) r ⌝ }
+    ensures { λ r. ⌜ r ≤ at + 2 ⌝ }
+{
+    if driven {
+        return put_two(out, at, byte);
+    }
+    put_dashes(out, at)
+}
+
+// 0 or 1.
+fn bit_of(on: bool) -> u8
+    ensures { λ r. ⌜ r ≡ bitText on ⌝ }
+{
+    if on { b'1' } else { b'0' }
+}
+
+// SUP, the request, the data byte and the end of a line, by an answer's flags.
+pub fn put_signals(out: &mut [u8], at: usize, flags: u8, byte: u8) -> usize
+    requires { ⌜ at + 7 ≤ length (now out) ⌝ }
+    ensures { λ r. ⌜ Put (now (out .entry)) at (signals (has flags 2) (has flags 4) (has flags 8) byte) (now (out .exit)) r ⌝ }
+    ensures { λ r. ⌜ r ≤ at + 7 ⌝ }
+{
+    let sup = bit_of(flags & unit_packed::SUP != 0);
+    let request = bit_of(flags & unit_packed::TRAP != 0);
+    let p1 = put(out, at, sup);
+    let p2 = put(out, p1, b' ');
+    let p3 = put(out, p2, request);
+    let p4 = put(out, p3, b' ');
+    let p5 = put_byte(out, p4, flags & unit_packed::DRIVES != 0, byte);
+    put(out, p5, b'\n')
+}

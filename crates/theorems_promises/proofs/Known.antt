@@ -1,0 +1,153 @@
+-- The right answer, of the contracts themselves: what a caller learns of a call on known bytes is what document 01's sample has, computed
+-- by the checker. Assumes nothing.
+use mathlib.Core.Bool.{Bool, true, false}
+use mathlib.Core.List.{List, [], _∷_, _++_}
+use mathlib.Core.Path.{_≡_, refl, ap, _∙_}
+use Prim.Native.Nat.{ℕ, _+_}
+use contract.Lifetimes.{Lfts}
+use borrow.Fn.Kinds.{endedOf}
+use denote.Ref.{RefT, now}
+use denote.Triple.Clauses.{AtExit}
+use lib.Dec.{ltb}
+use lib.ListN.{length, replicate}
+use lib.Seq.{sets}
+use Rattle.text.specs.Listed.{filled, lengthOf}
+use Rattle.trace_reader.specs.declared.Found.{Found}
+use Rattle.trace_reader.specs.declared.Step.the-variants.{Record, No}
+use Rattle.rules.specs.Seen.{segment, translating, cycle}
+use Rattle.rules.specs.declared.Kind.the-variants.{Translated}
+use Rattle.rules.specs.declared.Stepped.{Stepped}
+use Rattle.unit_lent.proofs.step_by_lending.Kinds as step-by-lending-k
+use Rattle.unit_lent.proofs.step_by_lending.Reads as step-by-lending
+use Rattle.trace_reader.proofs.Answers.{finds-only}
+use Rattle.trace_reader.proofs.read_at.Kinds as read-at-k
+use Rattle.trace_reader.proofs.read_at.Reads as read-at
+use Rattle.trace_reader.proofs.shown_at.Kinds as shown-at-k
+use Rattle.trace_reader.proofs.shown_at.Reads as shown-at
+use Rattle.distantarm.proofs.distantarm_power_on.Kinds as distantarm-power-on-k
+use Rattle.distantarm.proofs.distantarm_power_on.Reads as distantarm-power-on
+use Rattle.distantarm.proofs.distantarm_cycle.Kinds as distantarm-cycle-k
+use Rattle.distantarm.proofs.distantarm_cycle.Reads as distantarm-cycle
+use Rattle.distantarm.proofs.distantarm_list.Kinds as distantarm-list-k
+use Rattle.distantarm.proofs.distantarm_list.Reads as distantarm-list
+use Rattle.theorems_promises.proofs.Computed.{computed}
+
+-- a lent buffer, wherever it stands
+abbrev lent : ℕ × ℕ → ℕ → List ℕ → RefT (List ℕ)
+lent p g l = record { ptr = p; name = g; now = l }
+
+-- the unit after the first five cycles of the sample: MSEN and TRNS, and segment 0 with the attributes
+abbrev pub turnedOn : (attributes : ℕ) → List ℕ
+turnedOn a = 192 ∷ replicate 9 0 ++ (35 ∷ 17 ∷ 32 ∷ a ∷ replicate 252 0)
+
+-- a system data read in segment 0, at offset %15, as `distantarm_cycle` takes it
+abbrev dataRead : ℕ × (Bool × (Bool × (Bool × (Bool × (ℕ × (ℕ × (ℕ × (Bool × Unit {0}))))))))
+dataRead = (8, (true, (false, (false, (false, (0, (21, (0, (false, tt)))))))))
+
+-- record 5: a system data read. The seventh byte of the lent answer is left
+pub distantarm-cycle-known : (κs : Lfts 2) (p q : ℕ × ℕ) (g h x : ℕ) (e : AtExit (endedOf 2 distantarm-cycle-k.ps distantarm-cycle-k.r) κs)
+    → distantarm-cycle.Learnt κs (lent p g (turnedOn 1), (lent q h (replicate 7 9), dataRead)) x e
+    → (x ≡ 0) × (now (e .0) ≡ turnedOn 129) × (now (e .1 .0) ≡ 84 ∷ 0 ∷ 35 ∷ 38 ∷ 1 ∷ 0 ∷ 9 ∷ [])
+unfolding computed
+distantarm-cycle-known κs p q g h x e l = (l .says, l .leaves, l .shows)
+
+-- notes that no unit has: refusal 2, and every byte of the unit is left
+pub distantarm-cycle-strange : (κs : Lfts 2) (p q : ℕ × ℕ) (g h x : ℕ) (e : AtExit (endedOf 2 distantarm-cycle-k.ps distantarm-cycle-k.r) κs)
+    → distantarm-cycle.Learnt κs (lent p g (replicate 9 0 ++ (16 ∷ replicate 256 0)), (lent q h (replicate 6 9), dataRead)) x e
+    → (x ≡ 2) × (now (e .0) ≡ replicate 9 0 ++ (16 ∷ replicate 256 0)) × (now (e .1 .0) ≡ 88 ∷ 2 ∷ 0 ∷ 0 ∷ 0 ∷ 0 ∷ [])
+unfolding computed
+distantarm-cycle-strange κs p q g h x e l = (l .says, l .leaves, l .shows)
+
+-- the least room, and a byte less of either
+pub distantarm-cycle-room : (κs : Lfts 2) (p q : ℕ × ℕ) (g h x y z : ℕ)
+    (d e f : AtExit (endedOf 2 distantarm-cycle-k.ps distantarm-cycle-k.r) κs)
+    → distantarm-cycle.Learnt κs (lent p g (replicate 266 0), (lent q h (replicate 6 9), dataRead)) x d
+    → distantarm-cycle.Learnt κs (lent p g (replicate 265 0), (lent q h (replicate 6 9), dataRead)) y e
+    → distantarm-cycle.Learnt κs (lent p g (replicate 266 0), (lent q h (replicate 5 9), dataRead)) z f
+    → (x ≡ 0) × ((y ≡ 255) × (now (e .0) ≡ replicate 265 0) × (now (e .1 .0) ≡ replicate 6 9))
+    × ((z ≡ 255) × (now (f .0) ≡ replicate 266 0) × (now (f .1 .0) ≡ replicate 5 9))
+unfolding computed
+distantarm-cycle-room κs p q g h x y z d e f k l m = (k .says, (l .says, l .leaves, l .shows), (m .says, m .leaves, m .shows))
+
+-- the text of the sample
+abbrev pub sample : List ℕ
+sample =
+    77 ∷ 66 ∷ 84 ∷ 0 ∷ 1 ∷ 0 ∷ 9
+    ∷ 131 ∷ 0 ∷ 0 ∷ 192
+    ∷ 131 ∷ 0 ∷ 11 ∷ 35
+    ∷ 131 ∷ 0 ∷ 11 ∷ 17
+    ∷ 131 ∷ 0 ∷ 11 ∷ 32
+    ∷ 131 ∷ 0 ∷ 11 ∷ 1
+    ∷ 24 ∷ 0 ∷ 21 ∷ 0
+    ∷ 40 ∷ 0 ∷ 21 ∷ 0
+    ∷ 147 ∷ 0 ∷ 2 ∷ 0
+    ∷ 20 ∷ 0 ∷ 0 ∷ 0 ∷ []
+
+abbrev pub text : List ℕ
+text =
+    77 ∷ 66 ∷ 84 ∷ 32 ∷ 49 ∷ 32 ∷ 57 ∷ 10
+    ∷ 48 ∷ 32 ∷ 67 ∷ 32 ∷ 45 ∷ 45 ∷ 45 ∷ 45 ∷ 32 ∷ 48 ∷ 32 ∷ 48 ∷ 32 ∷ 45 ∷ 45 ∷ 10
+    ∷ 49 ∷ 32 ∷ 67 ∷ 32 ∷ 45 ∷ 45 ∷ 45 ∷ 45 ∷ 32 ∷ 48 ∷ 32 ∷ 48 ∷ 32 ∷ 45 ∷ 45 ∷ 10
+    ∷ 50 ∷ 32 ∷ 67 ∷ 32 ∷ 45 ∷ 45 ∷ 45 ∷ 45 ∷ 32 ∷ 48 ∷ 32 ∷ 48 ∷ 32 ∷ 45 ∷ 45 ∷ 10
+    ∷ 51 ∷ 32 ∷ 67 ∷ 32 ∷ 45 ∷ 45 ∷ 45 ∷ 45 ∷ 32 ∷ 48 ∷ 32 ∷ 48 ∷ 32 ∷ 45 ∷ 45 ∷ 10
+    ∷ 52 ∷ 32 ∷ 67 ∷ 32 ∷ 45 ∷ 45 ∷ 45 ∷ 45 ∷ 32 ∷ 48 ∷ 32 ∷ 48 ∷ 32 ∷ 45 ∷ 45 ∷ 10
+    ∷ 53 ∷ 32 ∷ 84 ∷ 32 ∷ 50 ∷ 51 ∷ 50 ∷ 54 ∷ 32 ∷ 48 ∷ 32 ∷ 48 ∷ 32 ∷ 45 ∷ 45 ∷ 10
+    ∷ 54 ∷ 32 ∷ 84 ∷ 32 ∷ 50 ∷ 51 ∷ 50 ∷ 54 ∷ 32 ∷ 49 ∷ 32 ∷ 49 ∷ 32 ∷ 45 ∷ 45 ∷ 10
+    ∷ 55 ∷ 32 ∷ 67 ∷ 32 ∷ 45 ∷ 45 ∷ 45 ∷ 45 ∷ 32 ∷ 48 ∷ 32 ∷ 49 ∷ 32 ∷ 48 ∷ 49 ∷ 10
+    ∷ 56 ∷ 32 ∷ 65 ∷ 32 ∷ 45 ∷ 45 ∷ 45 ∷ 45 ∷ 32 ∷ 48 ∷ 32 ∷ 48 ∷ 32 ∷ 48 ∷ 49 ∷ 10 ∷ []
+
+-- in a buffer with room, and in one without
+pub distantarm-list-known : (κs : Lfts 2) (p q : ℕ × ℕ) (g h x : ℕ) (l : List ℕ)
+    (e : AtExit (endedOf 2 distantarm-list-k.ps distantarm-list-k.r) κs)
+    → distantarm-list.Learnt κs (lent p g sample, (lent q h l, tt)) x e
+    → (ltb (length l) 400012 ≡ false → (x ≡ 152) × (now (e .1 .0) ≡ sets l 0 text))
+    × (ltb (length l) 400012 ≡ true → (x ≡ 0) × (now (e .1 .0) ≡ l))
+unfolding computed
+distantarm-list-known κs p q g h x l e s = (
+  λ wide. (s .count ∙ ap (λ (b : Bool). lengthOf b sample) wide, s .text ∙ ap (λ (b : Bool). filled b sample l) wide),
+  λ short. (s .count ∙ ap (λ (b : Bool). lengthOf b sample) short, s .text ∙ ap (λ (b : Bool). filled b sample l) short),
+)
+
+-- a byte more than a unit has, as many, and a byte less
+pub distantarm-power-on-known : (κs : Lfts 1) (p : ℕ × ℕ) (g x y z : ℕ)
+    (d e f : AtExit (endedOf 1 distantarm-power-on-k.ps distantarm-power-on-k.r) κs)
+    → distantarm-power-on.Learnt κs (lent p g (replicate 267 9), tt) x d
+    → distantarm-power-on.Learnt κs (lent p g (replicate 266 9), tt) y e
+    → distantarm-power-on.Learnt κs (lent p g (replicate 265 9), tt) z f
+    → ((x ≡ 0) × (now (d .0) ≡ replicate 266 0 ++ (9 ∷ []))) × ((y ≡ 0) × (now (e .0) ≡ replicate 266 0))
+    × ((z ≡ 255) × (now (f .0) ≡ replicate 265 9))
+unfolding computed
+distantarm-power-on-known κs p g x y z d e f k l m = ((k .says, k .leaves), (l .says, l .leaves), (m .says, m .leaves))
+
+-- record 5 of the sample, and none past its count
+pub shown-at-known : (κs : Lfts 1) (p : ℕ × ℕ) (g : ℕ) (x y : RefT (List ℕ)) (e f : AtExit (endedOf 1 shown-at-k.ps shown-at-k.r) κs)
+    → shown-at.Learnt κs (lent p g sample, (5, tt)) x e → shown-at.Learnt κs (lent p g sample, (9, tt)) y f
+    → (now x ≡ 24 ∷ 0 ∷ 21 ∷ 0 ∷ []) × (x .ptr ≡ (p .0, 27 + p .1)) × (now y ≡ []) × (y .ptr ≡ (p .0, 0 + p .1))
+unfolding computed
+shown-at-known κs p g x y e f l m = (l .0, l .1, m .0, m .1)
+
+pub read-at-known : (κs : Lfts 1) (p : ℕ × ℕ) (g : ℕ) (x y : Found) (e f : AtExit (endedOf 1 read-at-k.ps read-at-k.r) κs)
+    → read-at.Learnt κs (lent p g sample, (5, tt)) x e → read-at.Learnt κs (lent p g sample, (9, tt)) y f
+    → (x ≡ record { step = Record (cycle false true false 8 0 21); next = 6 }) × (y ≡ record { step = No 9; next = 9 })
+unfolding computed
+read-at-known κs p g x y e f l m = (
+  finds-only sample 5 x (record { step = Record (cycle false true false 8 0 21); next = 6 }) l ((refl, refl), refl),
+  finds-only sample 9 y (record { step = No 9; next = 9 }) m ((refl, refl), refl),
+)
+
+-- the same cycle, on the unit record
+pub step-by-lending-known : (κs : Lfts 0) (s : Stepped) (e : AtExit (endedOf 0 step-by-lending-k.ps step-by-lending-k.r) κs)
+    → step-by-lending.Learnt κs (translating (segment 8977 32 1), (cycle false true false 8 0 21, tt)) s e
+    → s ≡ record {
+      unit = translating (segment 8977 32 129);
+      answer = record {
+        kind = Translated;
+        lines = record { driven = true; block = 8998 };
+        sup = false;
+        trap = false;
+        drives = false;
+        byte = 0;
+      };
+    }
+unfolding computed
+step-by-lending-known κs s e l = l

@@ -1,0 +1,209 @@
+-- What a set or clear command does to a unit, whatever its data byte, and how that goes together with what other commands do.
+-- Assumes nothing.
+use mathlib.Core.Path.{_≡_, refl, sym, _∙_, ap}
+use mathlib.Core.Bool.{Bool, true, false, not, _&&_, true≢false, false≢true}
+use mathlib.Core.List.{map}
+use Prim.Native.Nat.{ℕ, _-_, _%_}
+use native.Mathlib.Omega.{arith}
+use lib.Bits.{bitAnd, and-zero-r}
+use lib.Dec.{eqb}
+use lib.ListN.{length, getD}
+use borrow.Author.Tests.{eqb-true}
+use Rattle.rules.specs.Flags.{without}
+use Rattle.rules.specs.Masks.{CPUI, DMAI, SWW, FATL}
+use Rattle.rules.specs.PowerOn.{none}
+use Rattle.rules.specs.Refusals.{off, plain, refused}
+use Rattle.rules.specs.Entry.{replaced, indexOf, nextCounter, moved, writtenBy}
+use Rattle.rules.specs.Commands.{given, controlled, programmed, entry, cleared, restarted, acted, executed}
+use Rattle.rules.specs.Step.{marked, changed}
+use Rattle.rules.specs.declared.Action.{Action}
+use Rattle.rules.specs.declared.Action.the-variants.{SoftwareReset, ClearVtr, ClearSww, ClearFatl, SetCpui, SetDmai}
+use Rattle.rules.specs.declared.Answer.{Answer}
+use Rattle.rules.specs.declared.Command.{Command}
+use Rattle.rules.specs.declared.Command.the-variants.{Mr, Sar, Dscr, Show, Entry, Act, Unlisted}
+use Rattle.rules.specs.declared.Cycle.{Cycle}
+use Rattle.rules.specs.declared.Decision.{Decision}
+use Rattle.rules.specs.declared.Descriptor.{Descriptor}
+use Rattle.rules.specs.declared.Part.the-variants.{Base, Limit, Attributes, Whole}
+use Rattle.rules.specs.declared.Stepped.{Stepped}
+use Rattle.rules.specs.declared.Unit.{Unit}
+use Rattle.theorems_runs.proofs.Bits.{with-twice, with-either, without-part, without-either}
+use Rattle.theorems_runs.proofs.Tables.{at-map, map-set, map-map}
+use Rattle.rules.specs.declared.Kind.the-variants as kind
+
+-- what is decided in a command that writes
+abbrev decides : Command → Unit → Cycle → Decision
+decides m u c = executed m false (u .registers) (getD (u .table) (u .registers .control .sar % 64) none) c
+
+-- and what it does
+abbrev pub done : Command → Unit → Cycle → Stepped
+done m u c = record {
+  unit = record { table = changed (decides m u c .change) (u .registers .control .sar % 64) (u .table); registers = decides m u c .registers };
+  answer = decides m u c .answer;
+}
+
+abbrev pub left : Stepped → Unit
+left s = s .unit
+
+-- What a set or clear command does to a unit
+
+pub data Effect : Type 0 where
+  -- clears flags of VTR
+  clears : (flags : ℕ) → Effect
+  -- sets a flag in all descriptors
+  raises : (flag : ℕ) → Effect
+  resets : Effect
+
+abbrev pub effect : Action → Effect
+effect SoftwareReset = resets
+effect ClearVtr = clears 255
+effect ClearSww = clears SWW
+effect ClearFatl = clears FATL
+effect SetCpui = raises CPUI
+effect SetDmai = raises DMAI
+
+unfoldable pub does : Effect → Unit → Unit
+does (clears m) u = record { table = u .table; registers = cleared (u .registers) (without (u .registers .faults .vtr) m) }
+does (raises m) u = record { table = map (marked m) (u .table); registers = u .registers }
+does resets u = record { table = u .table; registers = restarted (u .registers) 0 }
+
+-- what it answers: nothing is driven, and the trap line is as the request stands after it
+abbrev pub said : (request : Bool) → Answer
+said request = record { kind = kind.Command; lines = off; sup = false; trap = request; drives = false; byte = 0 }
+
+abbrev pub request : Unit → Bool
+request u = u .registers .notes .request
+
+abbrev pub acted-on : Effect → Unit → Stepped
+acted-on e u = record { unit = does e u; answer = said (request (does e u)) }
+
+pub act-done : (a : Action) (u : Unit) (c : Cycle) → done (Act a) u c ≡ acted-on (effect a) u
+unfolding does executed acted plain cleared restarted changed
+act-done SoftwareReset u c = refl
+act-done ClearVtr u c = rw (and-zero-r (u .registers .faults .vtr))
+act-done ClearSww u c = refl
+act-done ClearFatl u c = refl
+act-done SetCpui u c = refl
+act-done SetDmai u c = refl
+
+-- any two of them, in either order
+pub either : (e f : Effect) (u : Unit) → does f (does e u) ≡ does e (does f u)
+unfolding does cleared restarted
+either (clears m) (clears n) u = rw (without-either (u .registers .faults .vtr) m n)
+either (clears m) (raises n) u = refl
+either (clears m) resets u = refl
+either (raises m) (clears n) u = refl
+either (raises m) (raises n) u =
+    let both : Descriptor → Descriptor = λ d. marked m (marked n d) in
+    rw (
+      map-map (marked m) (marked n) both (λ d. rw (with-either (d .attributes) m n)) (u .table),
+      map-map (marked n) (marked m) both (λ d. refl) (u .table),
+    )
+either (raises m) resets u = refl
+either resets (clears n) u = refl
+either resets (raises n) u = refl
+either resets resets u = refl
+
+-- the first does nothing after the second
+abbrev pub within : Effect → Effect → Bool
+within (clears n) (clears m) = eqb (bitAnd (255 - m) (255 - n)) (255 - m)
+within (clears n) (raises m) = false
+within (clears n) resets = true
+within (raises n) (clears m) = false
+within (raises n) (raises m) = eqb n m
+within (raises n) resets = false
+within resets (clears m) = false
+within resets (raises m) = false
+within resets resets = true
+
+pub idle : (e f : Effect) (u : Unit) → within f e ≡ true → does f (does e u) ≡ does e u
+unfolding does cleared restarted
+idle (clears m) (clears n) u t = rw (without-part (u .registers .faults .vtr) m n (eqb-true _ _ t))
+idle (clears m) (raises n) u t = absurd (false≢true t)
+idle (clears m) resets u t = absurd (false≢true t)
+idle (raises m) (clears n) u t = absurd (false≢true t)
+idle (raises m) (raises n) u t =
+    rw (eqb-true n m t, map-map (marked m) (marked m) (marked m) (λ d. rw (with-twice (d .attributes) m)) (u .table))
+idle (raises m) resets u t = absurd (false≢true t)
+idle resets (clears n) u t = refl
+idle resets (raises n) u t = absurd (false≢true t)
+idle resets resets u t = refl
+
+-- A set or clear command and another command
+
+-- the other command writes what the effect clears or sets, or goes by it
+abbrev pub clash : Effect → Command → Bool
+clash (clears m) k = false
+clash (raises m) (Entry Base) = true
+clash (raises m) (Entry Limit) = false
+clash (raises m) (Entry Attributes) = true
+clash (raises m) (Entry Whole) = true
+clash (raises m) Mr = false
+clash (raises m) Sar = false
+clash (raises m) Dscr = false
+clash (raises m) (Show g) = false
+clash (raises m) (Act a) = false
+clash (raises m) Unlisted = false
+clash resets (Entry Base) = true
+clash resets (Entry Limit) = false
+clash resets (Entry Attributes) = false
+clash resets (Entry Whole) = true
+clash resets Mr = true
+clash resets Sar = false
+clash resets Dscr = true
+clash resets (Show g) = false
+clash resets (Act a) = false
+clash resets Unlisted = false
+
+pub no-clash : (e : Effect) (a : Action) → clash e (Act a) ≡ false
+no-clash (clears m) a = refl
+no-clash (raises m) a = refl
+no-clash resets a = refl
+
+pub passes : (e : Effect) (k : Command) (u : Unit) (c : Cycle) → length (u .table) ≡ 64 → c .read ≡ false → clash e k ≡ false
+    → done k (does e u) c .unit ≡ does e (done k u c .unit)
+unfolding does executed programmed given controlled entry cleared restarted refused plain changed writtenBy moved indexOf nextCounter replaced
+passes e (Act a) u c h w t =
+    ap left (act-done a (does e u) c) ∙ either e (effect a) u ∙ sym (ap (λ (s : Stepped). does e (left s)) (act-done a u c))
+passes (clears m) Mr u c h w t = refl
+passes (clears m) Sar u c h w t = refl
+passes (clears m) Dscr u c h w t = refl
+passes (clears m) (Show g) u c h w t = refl
+passes (clears m) (Entry p) u c h w t = refl
+passes (clears m) Unlisted u c h w t = refl
+passes (raises m) Mr u c h w t = refl
+passes (raises m) Sar u c h w t = refl
+passes (raises m) Dscr u c h w t = refl
+passes (raises m) (Show g) u c h w t = refl
+passes (raises m) (Entry Limit) u c h w t =
+    let i : ℕ = u .registers .control .sar % 64 in
+    rw (
+      w,
+      at-map (marked m) (u .table) i none (omega (arith, h)),
+      map-set (marked m) (u .table) i (replaced (getD (u .table) i none) 2 (c .byte)),
+    )
+passes (raises m) (Entry Base) u c h w t = absurd (true≢false t)
+passes (raises m) (Entry Attributes) u c h w t = absurd (true≢false t)
+passes (raises m) (Entry Whole) u c h w t = absurd (true≢false t)
+passes (raises m) Unlisted u c h w t = refl
+passes resets Mr u c h w t = absurd (true≢false t)
+passes resets Sar u c h w t = rw w
+passes resets Dscr u c h w t = absurd (true≢false t)
+passes resets (Show g) u c h w t = refl
+passes resets (Entry Limit) u c h w t = refl
+passes resets (Entry Attributes) u c h w t = refl
+passes resets (Entry Base) u c h w t = absurd (true≢false t)
+passes resets (Entry Whole) u c h w t = absurd (true≢false t)
+passes resets Unlisted u c h w t = refl
+
+-- a reset takes the trap line back; the others leave it
+abbrev pub isReset : Effect → Bool
+isReset (clears m) = false
+isReset (raises m) = false
+isReset resets = true
+
+pub request-after : (e : Effect) (u : Unit) → request (does e u) ≡ (not (isReset e) && request u)
+unfolding does cleared restarted
+request-after (clears m) u = refl
+request-after (raises m) u = refl
+request-after resets u = refl

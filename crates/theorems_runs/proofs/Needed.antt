@@ -1,0 +1,79 @@
+-- Why demand 3 needs its stop and leaves out writes to descriptors: two runs that antt computes.
+-- Assumes nothing.
+use mathlib.Core.Path.{_≡_, refl, subst}
+use mathlib.Core.Bool.{Bool, true, false, false≢true}
+use mathlib.Core.List.{List, [], _∷_}
+use Rattle.rules.specs.Masks.{DIRW}
+use lib.Dec.{lit≤}
+use Rattle.rules.specs.PowerOn.{none}
+use Rattle.rules.specs.Seen.{segment, cycle, command}
+use Rattle.rules.specs.Runs.{answers}
+use Rattle.rules.specs.declared.Cycle.{Cycle}
+use Rattle.rules.specs.declared.Descriptor.{Descriptor}
+use Rattle.rules.specs.declared.Unit.{Unit}
+use Rattle.theorems_runs.specs.Sequences.{Both}
+use Rattle.theorems_runs.specs.Tighter.{Wider, Loosened, Covers, before, NoDescriptorWrite, TighterCovers, StopNeeded}
+use Rattle.theorems_runs.specs.Tighter.{WritesExcluded}
+use Rattle.theorems_runs.proofs.Computed.{computed}
+use Rattle.theorems_runs.proofs.Examples.{unit, unit-undamaged, wider-entries, readOnly, writable, closed, writable-wider}
+use Rattle.theorems_runs.proofs.Wider.{wider-refl}
+
+unit-loosened : {x y x' y' z : Descriptor} → Wider x x' → Wider y y' → Loosened (unit x y z) (unit x' y' z)
+unit-loosened w v = record { registers = refl; table = wider-entries w v (wider-refl _) }
+
+-- The stop. Segment 1 is read-only in the first unit alone, segment 2 is closed to the CPU in both. A write to segment 1 is a violation in
+-- the first unit, whose next fetch is therefore an aborted one, SUP off; the second unit suppresses that fetch.
+
+faultThenFetch : List Cycle
+faultThenFetch = cycle false false false 8 1 0 ∷ cycle false true false 13 2 0 ∷ []
+
+pub stop-needed : StopNeeded
+unfolding faultThenFetch before computed
+stop-needed claim = refuted _ claim refl
+  where
+    first : Unit
+    first = unit none readOnly closed
+
+    second : Unit
+    second = unit none writable closed
+
+    -- by any stop that leaves both cycles
+    refuted : (stop : Unit → Unit → Cycle → Bool) → TighterCovers NoDescriptorWrite stop
+        → before stop first second faultThenFetch ≡ faultThenFetch → ⊥
+    refuted stop claim both =
+        false≢true
+        (subst (λ (cs : List Cycle). Both Covers (answers first cs) (answers second cs)) both
+        (claim first second faultThenFetch
+        (unit-undamaged _ _ _) (unit-undamaged _ _ _) (unit-loosened (wider-refl _) writable-wider)
+        (refl, (refl, refl))) .1 .0 .sup refl)
+
+-- Writes to descriptors. Segment 0 ends at %10 in the first unit and at %20 in the second. Once DIRW is written to both, it begins there: the
+-- block %18 is then inside the first's and outside the second's.
+
+short : Descriptor
+short = segment 0 0x10 0
+
+long : Descriptor
+long = segment 0 0x20 0
+
+turnThenRead : List Cycle
+turnThenRead = command false 0x0A DIRW ∷ cycle false true false 8 0 0x18 ∷ []
+
+long-wider : Wider short long
+unfolding short long
+long-wider =
+    record {
+      base = refl;
+      direction = refl;
+      rights = (λ e. e, (λ e. e, (λ e. e, (λ e. e, (λ e. e, refl)))));
+      up = λ e. lit≤ tt;
+      down = λ e. absurd (false≢true e);
+    }
+
+pub writes-excluded : WritesExcluded
+unfolding short long turnThenRead before computed
+writes-excluded claim =
+    false≢true
+    (claim (unit short none none) (unit long none none) turnThenRead
+    (unit-undamaged _ _ _) (unit-undamaged _ _ _) (unit-loosened long-wider (wider-refl _))
+    (refl, (refl, refl)) .1 .0 .sup refl)

@@ -1,0 +1,195 @@
+-- What a cycle leaves of MR, SAR, DSCR and hold: one walk over every decision.
+-- Assumes nothing.
+use mathlib.Core.Path.{_≡_, refl, sym, _∙_, ap}
+use mathlib.Core.Bool.{Bool, true, false, cond, not, _&&_, _||_, and-comm, or-comm, and-false, or-false}
+use Prim.Native.Nat.{ℕ, _%_}
+use lib.Dec.{eqb, leb}
+use lib.ListN.{getD}
+use borrow.Author.Tests.{eqb-true}
+use Rattle.rules.proofs.Blind.{isTranslated}
+use Rattle.rules.specs.Bus.{cpu, write, fetch}
+use Rattle.rules.specs.Checks.{rightsOf, outOfLength, warns}
+use Rattle.rules.specs.PowerOn.{none}
+use Rattle.rules.specs.Refusals.{damaged, outOfRange, plain, refused}
+use Rattle.rules.specs.Status.{resetBy, quieted, acknowledged, ignored, purposeOf, byPurpose, byStatus}
+use Rattle.rules.specs.Recording.{firstEntry, added, raised, eventOf, recorded}
+use Rattle.rules.specs.Memory.{begun, noted, checked, accessed, resumed, aborted, untranslated, memoryBy, aborts, memory}
+use Rattle.rules.specs.Translation.{wayOf}
+use Rattle.rules.specs.Codes.{commandOf}
+use Rattle.rules.specs.Entry.{moved}
+use Rattle.rules.specs.Commands.{given, controlled, cleared, restarted, programmed, entry, acted, executed, commanded}
+use Rattle.rules.specs.Step.{decidedBy, decided, place, decision}
+use Rattle.rules.specs.declared.Action.{Action}
+use Rattle.rules.specs.declared.Action.the-variants.{SoftwareReset, ClearVtr, ClearSww, ClearFatl, SetCpui, SetDmai}
+use Rattle.rules.specs.declared.Command.{Command}
+use Rattle.rules.specs.declared.Command.the-variants.{Mr, Sar, Dscr, Show, Entry, Act, Unlisted}
+use Rattle.rules.specs.declared.Control.{Control}
+use Rattle.rules.specs.declared.Cycle.{Cycle}
+use Rattle.rules.specs.declared.Decision.{Decision}
+use Rattle.rules.specs.declared.Descriptor.{Descriptor}
+use Rattle.rules.specs.declared.Lines.{Lines}
+use Rattle.rules.specs.declared.Purpose.{Purpose}
+use Rattle.rules.specs.declared.Registers.{Registers}
+use Rattle.rules.specs.declared.Unit.{Unit}
+use Rattle.rules.specs.declared.Way.{Way}
+use Rattle.theorems_runs.proofs.Answers.{fails}
+use Rattle.theorems_runs.proofs.Codes.{isSoftwareReset, software-reset-code}
+use Rattle.theorems_runs.proofs.Purposes.{isCommand, isAcknowledge, isMemory, command-status, acknowledge-status, memory-status}
+use Rattle.theorems_runs.proofs.Tests.{and-l, and-r}
+use Rattle.theorems_runs.proofs.Ways.{by-row}
+use Rattle.rules.specs.declared.Purpose.the-variants as purpose
+use Rattle.rules.specs.declared.Way.the-variants as way
+
+-- MR, SAR and DSCR after a command, from those before it
+abbrev actControl : Action → Control → Control
+actControl SoftwareReset k = record { mr = 0; sar = k .sar; dscr = 0 }
+actControl ClearVtr k = k
+actControl ClearSww k = k
+actControl ClearFatl k = k
+actControl SetCpui k = k
+actControl SetDmai k = k
+
+abbrev pub commandControl : Command → (read : Bool) → Cycle → Control → Control
+commandControl Mr read c k = cond (c .read) k (record { mr = c .byte; sar = k .sar; dscr = k .dscr })
+commandControl Sar read c k = cond (c .read) k (record { mr = k .mr; sar = c .byte % 64; dscr = k .dscr })
+commandControl Dscr read c k = cond (c .read) k (record { mr = k .mr; sar = k .sar; dscr = c .byte % 4 })
+commandControl (Show g) read c k = k
+commandControl (Entry p) read c k = moved k p c
+commandControl (Act a) true c k = k
+commandControl (Act a) false c k = actControl a k
+commandControl Unlisted read c k = k
+
+-- and after a cycle
+abbrev pub controlBy : (two one reset command : Bool) → Cycle → Control → Control
+controlBy true one reset command c k = k
+controlBy false true reset command c k = k
+controlBy false false true command c k = record { mr = cond (c .select) 128 0; sar = k .sar; dscr = 0 }
+controlBy false false false true c k = commandControl (commandOf (c .offset)) (c .read) c k
+controlBy false false false false c k = k
+
+pub record Leaves (x : Decision) (k : Control) (h : Bool) : Type 0 where
+  pub control : x .registers .control ≡ k
+  pub hold : x .registers .notes .hold ≡ h
+
+recorded-leaves : (r : Registers) (c : Cycle) (e : ℕ)
+    → (recorded r c e .control ≡ r .control) × (recorded r c e .notes .hold ≡ r .notes .hold)
+unfolding firstEntry added raised
+recorded-leaves r c e =
+    by-row (λ s. (s .control ≡ r .control) × (s .notes .hold ≡ r .notes .hold)) r c e (refl, refl) (λ n p. (refl, refl)) (λ p. (refl, refl))
+    (λ flag p. (refl, refl))
+
+module _ (r : Registers) (d : Descriptor) (c : Cycle) where
+  accessed-leaves : (s : Registers) (l : Lines) → Leaves (accessed s d c l) (s .control) (fails d c && cpu c || s .notes .hold)
+  unfolding accessed checked noted
+  accessed-leaves s l =
+      let rights : ℕ = rightsOf (d .attributes) c in
+      let keeps : _ = recorded-leaves s c (eventOf (c .dma) (fails d c) (warns d c (fails d c)) rights (outOfLength d c)) in
+      record {
+        control = keeps .0;
+        hold = ap (λ (h : Bool). h || (fails d c && cpu c)) (keeps .1) ∙ or-comm (s .notes .hold) (fails d c && cpu c);
+      }
+
+  memory-leaves : (b : Bool) (w : Way) (l : Lines) → (b ≡ true → fetch c ≡ true)
+      → Leaves (memoryBy b w r d c l) (r .control) (not b && isTranslated w && fails d c && cpu c || not (fetch c) && r .notes .hold)
+  unfolding aborted resumed untranslated begun
+  memory-leaves true w l f = record { control = refl; hold = sym (ap (λ (t : Bool). not t && r .notes .hold) (f refl)) }
+  memory-leaves false way.Translated l f =
+      let x : Leaves (accessed (begun r (fetch c)) d c l) (r .control) (fails d c && cpu c || r .notes .hold && not (fetch c)) =
+      accessed-leaves (begun r (fetch c)) l in
+      record { control = x .control; hold = x .hold ∙ ap (λ (h : Bool). fails d c && cpu c || h) (and-comm (r .notes .hold) (not (fetch c))) }
+  memory-leaves false way.Passed l f = record { control = refl; hold = and-comm (r .notes .hold) (not (fetch c)) }
+  memory-leaves false way.Silent l f = record { control = refl; hold = and-comm (r .notes .hold) (not (fetch c)) }
+
+  acted-leaves : (a : Action) → Leaves (acted r a) (actControl a (r .control)) (not (isSoftwareReset (Act a)) && r .notes .hold)
+  unfolding acted plain restarted cleared
+  acted-leaves SoftwareReset = record { control = refl; hold = refl }
+  acted-leaves ClearVtr = record { control = refl; hold = refl }
+  acted-leaves ClearSww = record { control = refl; hold = refl }
+  acted-leaves ClearFatl = record { control = refl; hold = refl }
+  acted-leaves SetCpui = record { control = refl; hold = refl }
+  acted-leaves SetDmai = record { control = refl; hold = refl }
+
+  keeps-hold : (t : Bool) → r .notes .hold ≡ (not (t && false) && r .notes .hold)
+  keeps-hold t = rw (and-false t)
+
+  executed-leaves : (m : Command) (read : Bool)
+      → Leaves (executed m read r d c) (commandControl m read c (r .control)) (not (not read && isSoftwareReset m) && r .notes .hold)
+  unfolding executed programmed given controlled entry refused plain
+  executed-leaves Mr read = record { control = refl; hold = keeps-hold (not read) }
+  executed-leaves Sar read = record { control = refl; hold = keeps-hold (not read) }
+  executed-leaves Dscr read = record { control = refl; hold = keeps-hold (not read) }
+  executed-leaves (Show g) true = record { control = refl; hold = refl }
+  executed-leaves (Show g) false = record { control = refl; hold = refl }
+  executed-leaves (Entry p) read = record { control = refl; hold = keeps-hold (not read) }
+  executed-leaves (Act a) true = record { control = refl; hold = refl }
+  executed-leaves (Act a) false = acted-leaves a
+  executed-leaves Unlisted read = record { control = refl; hold = keeps-hold (not read) }
+
+  -- a CPU violation of a memory cycle
+  unfoldable pub violated : Bool
+  violated = not (aborts r c) && isTranslated (wayOf (r .control .mr) c) && fails d c && cpu c
+
+  purpose-leaves : (p : Purpose) (x y : Bool)
+      → Leaves (byPurpose p x y r d c) (controlBy false false false (isCommand p && y) c (r .control))
+      (isMemory p && violated
+      || not (isAcknowledge p && x || isMemory p && fetch c || isCommand p && y && write c && isSoftwareReset (commandOf (c .offset)))
+      && r .notes .hold)
+  unfolding violated acknowledged quieted ignored plain commanded memory
+  purpose-leaves purpose.Acknowledge true y = record { control = refl; hold = refl }
+  purpose-leaves purpose.Acknowledge false y = record { control = refl; hold = refl }
+  purpose-leaves purpose.Command x true = executed-leaves (commandOf (c .offset)) (c .read)
+  purpose-leaves purpose.Command x false = record { control = refl; hold = refl }
+  purpose-leaves purpose.Memory x y =
+      let m : _ = memory-leaves (aborts r c) (wayOf (r .control .mr) c) _ (λ e. and-l (fetch c) _ e) in
+      record { control = m .control; hold = m .hold ∙ ap (λ (t : Bool). violated || not t && r .notes .hold) (sym (or-false (fetch c))) }
+  purpose-leaves purpose.Other x y = record { control = refl; hold = refl }
+
+  -- a fetch is a memory cycle
+  fetch-memory : (isMemory (purposeOf (c .status)) && fetch c) ≡ fetch c
+  fetch-memory = go (fetch c) refl
+    where
+      go : (t : Bool) → fetch c ≡ t → (isMemory (purposeOf (c .status)) && t) ≡ t
+      go true e =
+          ap (λ (m : Bool). m && true)
+          (memory-status (c .status) ∙ ap (λ (s : ℕ). leb 8 s && leb s 13) (eqb-true (c .status) 13 (and-r (cpu c && c .read) _ e)))
+      go false e = and-false (isMemory (purposeOf (c .status)))
+
+  decided-leaves : (two one reset : Bool)
+      → Leaves (decidedBy two one reset r d c) (controlBy two one reset (eqb (c .status) 3 && (cpu c && c .select)) c (r .control))
+      (not two && not one && (not reset && (leb 8 (c .status) && leb (c .status) 13)) && violated
+      || not
+      (not two && not one
+      && (reset || not reset && eqb (c .status) 4 && cpu c || not reset && fetch c
+      || not reset && eqb (c .status) 3 && (cpu c && c .select) && write c && eqb (c .offset) 0x10))
+      && r .notes .hold)
+  unfolding refused plain resetBy restarted byStatus
+  decided-leaves true one reset = record { control = refl; hold = refl }
+  decided-leaves false true reset = record { control = refl; hold = refl }
+  decided-leaves false false true = record { control = refl; hold = refl }
+  decided-leaves false false false =
+      let x : _ = purpose-leaves (purposeOf (c .status)) (cpu c) (cpu c && c .select) in
+      rw (← command-status (c .status), ← acknowledge-status (c .status), ← memory-status (c .status), ← software-reset-code (c .offset))
+      (record {
+        control = x .control;
+        hold =
+            x .hold
+            ∙ ap (λ (f : Bool).
+            isMemory (purposeOf (c .status)) && violated
+            || not
+            (isAcknowledge (purposeOf (c .status)) && cpu c || f
+            || isCommand (purposeOf (c .status)) && (cpu c && c .select) && write c && isSoftwareReset (commandOf (c .offset)))
+            && r .notes .hold) fetch-memory;
+      })
+
+pub leaves : (u : Unit) (c : Cycle)
+    → Leaves (decision u c)
+    (controlBy (damaged (u .registers)) (outOfRange c) (c .reset) (eqb (c .status) 3 && (cpu c && c .select)) c (u .registers .control))
+    (not (damaged (u .registers)) && not (outOfRange c) && (not (c .reset) && (leb 8 (c .status) && leb (c .status) 13))
+    && violated (u .registers) (getD (u .table) (place u c) none) c
+    || not
+    (not (damaged (u .registers)) && not (outOfRange c)
+    && (c .reset || not (c .reset) && eqb (c .status) 4 && cpu c || not (c .reset) && fetch c
+    || not (c .reset) && eqb (c .status) 3 && (cpu c && c .select) && write c && eqb (c .offset) 0x10))
+    && u .registers .notes .hold)
+unfolding decision decided
+leaves u c = decided-leaves (u .registers) (getD (u .table) (place u c) none) c (damaged (u .registers)) (outOfRange c) (c .reset)

@@ -1,0 +1,3 @@
+pub mod Snapshot
+pub mod Places
+pub mod Cycled

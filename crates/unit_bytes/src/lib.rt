@@ -1,0 +1,3 @@
+// A unit record as bytes that the caller keeps, and one cycle of it there.
+pub mod cycle;
+pub mod snapshot;

@@ -1,0 +1,183 @@
+// A unit record as 266 bytes: the registers, the notes, and four bytes for each descriptor.
+ghost use mathlib.Core.Path.{_≡_};
+ghost use Prim.Native.Nat.{_*_, _+_, _≤_};
+ghost use lib.ListN.{length};
+ghost use lib.Seq.{sets};
+ghost use Rattle.unit_bytes.specs.Snapshot.{tableAt, descriptorSize, segments, unitSize};
+ghost use Rattle.unit_bytes.specs.Snapshot.{descriptorIn, tableIn, notesIn, registersIn, unitIn};
+ghost use Rattle.unit_bytes.specs.Snapshot.{descriptorBytes, tableBytes, notesByte, registerBytes, bytesOf};
+use rules::Control;
+use rules::Descriptor;
+use rules::Faults;
+use rules::Fetched;
+use rules::Notes;
+use rules::Registers;
+use rules::Unit;
+use rules_flags::flag_if;
+
+// Where the notes of a unit stand, and where its descriptors begin.
+pub const NOTES: usize = 9;
+
+pub const TABLE: usize = 10;
+
+// The bytes of a descriptor, and those of a unit.
+pub const DESCRIPTOR: usize = 4;
+
+pub const BYTES: usize = TABLE + DESCRIPTOR * Unit::DESCRIPTORS;
+
+// The bits of the notes, and the largest byte that is made of them.
+pub const REQUEST: u8 = 1;
+
+pub const AWAIT: u8 = 2;
+
+pub const OWN: u8 = 4;
+
+pub const HOLD: u8 = 8;
+
+pub const LAST_NOTES: u8 = REQUEST | AWAIT | OWN | HOLD;
+
+// 16 bits, high byte first.
+fn pair(high: u8, low: u8) -> u16
+    ensures { λ r. ⌜ r ≡ high * 256 + low ⌝ }
+{
+    (high as u16) * 256 + low as u16
+}
+
+// The descriptor of the four bytes from an index on.
+pub fn descriptor_in(bytes: &[u8], at: usize) -> Descriptor
+    requires { ⌜ at + descriptorSize ≤ length (now bytes) ⌝ }
+    ensures { λ d. ⌜ d ≡ descriptorIn (now (bytes .entry)) at ⌝ }
+{
+    Descriptor {
+        base: pair(bytes[at], bytes[at + 1]),
+        limit: bytes[at + 2],
+        attributes: bytes[at + 3],
+    }
+}
+
+// The table of a unit's bytes.
+fn table_in(bytes: &[u8]) -> [Descriptor; Unit::DESCRIPTORS]
+    requires { ⌜ unitSize ≤ length (now bytes) ⌝ }
+    ensures { λ t. ⌜ t ≡ tableIn (now (bytes .entry)) segments ⌝ }
+{
+    let none = Descriptor {
+        base: 0,
+        limit: 0,
+        attributes: 0,
+    };
+    let mut table = [none; Unit::DESCRIPTORS];
+    for i in 0..Unit::DESCRIPTORS {
+        table[i] = descriptor_in(bytes, TABLE + DESCRIPTOR * i);
+    }
+    table
+}
+
+// The four notes of their byte.
+fn notes_in(byte: u8) -> Notes
+    ensures { λ n. ⌜ n ≡ notesIn byte ⌝ }
+{
+    Notes {
+        request: byte & REQUEST != 0,
+        awaits: byte & AWAIT != 0,
+        own: byte & OWN != 0,
+        hold: byte & HOLD != 0,
+    }
+}
+
+// The registers of the first bytes of a unit.
+pub fn registers_in(bytes: &[u8]) -> Registers
+    requires { ⌜ tableAt ≤ length (now bytes) ⌝ }
+    ensures { λ r. ⌜ r ≡ registersIn (now (bytes .entry)) ⌝ }
+{
+    Registers {
+        control: Control {
+            mr: bytes[0],
+            sar: bytes[1],
+            dscr: bytes[2],
+        },
+        faults: Faults {
+            vtr: bytes[3],
+            vsn: bytes[4],
+            voff: bytes[5],
+            bcsr: bytes[6],
+        },
+        fetched: Fetched {
+            isn: bytes[7],
+            ioff: bytes[8],
+        },
+        notes: notes_in(bytes[NOTES]),
+    }
+}
+
+// The unit of its bytes.
+pub fn unit_in(bytes: &[u8]) -> Unit
+    requires { ⌜ unitSize ≤ length (now bytes) ⌝ }
+    ensures { λ u. ⌜ u ≡ unitIn (now (bytes .entry)) ⌝ }
+{
+    let table = table_in(bytes);
+    let registers = registers_in(bytes);
+    Unit { table, registers }
+}
+
+// A descriptor's bytes stored from an index on.
+pub fn put_descriptor(out: &mut [u8], at: usize, d: Descriptor)
+    requires { ⌜ at + descriptorSize ≤ length (now out) ⌝ }
+    ensures { λ _. ⌜ now (out .exit) ≡ sets (now (out .entry)) at (descriptorBytes d) ⌝ }
+{
+    let base = d.base;
+    out[at] = (base / 256) as u8;
+    out[at + 1] = (base % 256) as u8;
+    out[at + 2] = d.limit;
+    out[at + 3] = d.attributes;
+}
+
+// A table's bytes stored at their place.
+fn put_table(out: &mut [u8], table: [Descriptor; Unit::DESCRIPTORS])
+    requires { ⌜ unitSize ≤ length (now out) ⌝ }
+    ensures { λ _. ⌜ now (out .exit) ≡ sets (now (out .entry)) tableAt (tableBytes table) ⌝ }
+{
+    for i in 0..Unit::DESCRIPTORS {
+        let d = table[i];
+        put_descriptor(out, TABLE + DESCRIPTOR * i, d);
+    }
+}
+
+// The notes in a byte.
+fn notes_byte(n: Notes) -> u8
+    ensures { λ b. ⌜ b ≡ notesByte n ⌝ }
+{
+    flag_if(n.request, REQUEST)
+        | flag_if(n.awaits, AWAIT)
+        | flag_if(n.own, OWN)
+        | flag_if(n.hold, HOLD)
+}
+
+// The registers' bytes stored at the start.
+pub fn put_registers(out: &mut [u8], r: Registers)
+    requires { ⌜ tableAt ≤ length (now out) ⌝ }
+    ensures { λ _. ⌜ now (out .exit) ≡ sets (now (out .entry)) 0 (registerBytes r) ⌝ }
+{
+    let n = r.notes;
+    let notes = notes_byte(n);
+    out[0] = r.control.mr;
+    out[1] = r.control.sar;
+    out[2] = r.control.dscr;
+    out[3] = r.faults.vtr;
+    out[4] = r.faults.vsn;
+    out[5] = r.faults.voff;
+    out[6] = r.faults.bcsr;
+    out[7] = r.fetched.isn;
+    out[8] = r.fetched.ioff;
+    out[NOTES] = notes;
+}
+
+// A unit's bytes stored at the start.
+pub fn put_unit(out: &mut [u8], u: Unit)
+    requires { ⌜ unitSize ≤ length (now out) ⌝ }
+    ensures { λ _. ⌜ now (out .exit) ≡ sets (now (out .entry)) 0 (bytesOf u) ⌝ }
+{
+    let registers = u.registers;
+    let table = u.table;
+    put_registers(out, registers);
+    put_table(out, table);
+}

@@ -1,0 +1,47 @@
+// An answer in six bytes.
+ghost use mathlib.Core.Path.{_≡_};
+ghost use Prim.Native.Nat.{_+_, _≤_};
+ghost use lib.ListN.{length};
+ghost use lib.Seq.{sets};
+ghost use Rattle.unit_packed.specs.Packed.{width, flagsOf, packed};
+use rules::Answer;
+use rules_flags::flag_if;
+
+// The bytes of an answer, and its flags: the address is driven, SUP, the trap line, the data byte is driven.
+pub const BYTES: usize = 6;
+
+pub const ADDRESS: u8 = 1;
+
+pub const SUP: u8 = 2;
+
+pub const TRAP: u8 = 4;
+
+pub const DRIVES: u8 = 8;
+
+// The flags of an answer.
+fn flags_of(a: Answer) -> u8
+    ensures { λ r. ⌜ r ≡ flagsOf a ⌝ }
+{
+    flag_if(a.lines.driven, ADDRESS)
+        | flag_if(a.sup, SUP)
+        | flag_if(a.trap, TRAP)
+        | flag_if(a.drives, DRIVES)
+}
+
+// An answer's bytes stored from an index on.
+pub fn put(out: &mut [u8], at: usize, a: Answer)
+    requires { ⌜ at + width ≤ length (now out) ⌝ }
+    ensures { λ _. ⌜ now (out .exit) ≡ sets (now (out .entry)) at (packed a) ⌝ }
+{
+    let kind = a.kind;
+    let letter = rules_answers::letter(kind);
+    let number = rules_answers::number(kind);
+    let flags = flags_of(a);
+    let block = a.lines.block;
+    out[at] = letter;
+    out[at + 1] = number;
+    out[at + 2] = (block / 256) as u8;
+    out[at + 3] = (block % 256) as u8;
+    out[at + 4] = flags;
+    out[at + 5] = a.byte;
+}

@@ -1,0 +1,22 @@
+-- `unit_step::step::step` meets its contract: what the calls ensure, put together. Assumes nothing.
+use Rattle.rules.specs.Step.{after, decision}
+use borrow.Author.Needs.{needs}
+use Rattle.unit_step.proofs.step.step.Statement.{statement}
+use Rattle.unit_step.proofs.step.step.Tie as tie
+
+pub step-spec : {M : Type 1} → statement M
+unfolding after decision
+step-spec =
+    tie.close
+    (tie.spec
+    (λ c κs. search needs)
+    (λ c. search needs)
+    (λ c. search needs)
+    (λ c. search needs)
+    (λ c κs. search needs)
+    (λ c κs. search needs)
+    (λ c. simp (
+      ← c .before .before .before .before .before .place-of .ensures,
+      ← c .before .before .before .act .ensures,
+      ← c .changed .ensures,
+    )))
