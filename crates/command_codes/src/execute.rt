@@ -21,7 +21,7 @@ fn executed(m: Command, read: bool, r: Registers, d: Descriptor, c: Cycle) -> De
         Command::Dscr => command_single::counter(r, c),
         Command::Show(g) => {
             if read {
-                command_single::given(true, command_single::register_of(r, g), r, Change::Keep)
+                command_single::replied(true, command_single::register_of(r, g), r, Change::Keep)
             } else {
                 rules_answers::refused(wrong_way, r)
             }

@@ -2,16 +2,14 @@
 ghost use mathlib.Core.Path.{_≡_};
 ghost use mathlib.Core.Bool.{cond};
 ghost use Prim.Native.Nat.{_%_};
-ghost use Rattle.rules.specs.Commands.{given, registerOf, restarted, programmed, entry, acted};
+ghost use Rattle.rules.specs.Commands.{replied, registerOf, restarted, programmed, entry, acted};
 use rules::Action;
-use rules::Answer;
 use rules::Change;
 use rules::Control;
 use rules::Cycle;
 use rules::Decision;
 use rules::Descriptor;
 use rules::Kind;
-use rules::Lines;
 use rules::Part;
 use rules::Register;
 use rules::Registers;
@@ -22,21 +20,11 @@ use rules_registers::with_notes;
 use rules_registers::with_vtr;
 
 // A command: a read drives the byte, a write none.
-pub fn given(read: bool, b: u8, r: Registers, h: Change) -> Decision
-    ensures { λ p. ⌜ p ≡ given read b r h ⌝ }
+pub fn replied(read: bool, b: u8, r: Registers, h: Change) -> Decision
+    ensures { λ p. ⌜ p ≡ replied read b r h ⌝ }
 {
     Decision {
-        answer: Answer {
-            kind: Kind::Command,
-            lines: Lines {
-                driven: false,
-                block: 0,
-            },
-            sup: false,
-            trap: r.notes.request,
-            drives: read,
-            byte: flag_if(read, b),
-        },
+        answer: rules_answers::spoken(Kind::Command, r.notes.request, read, flag_if(read, b)),
         registers: r,
         change: h,
     }
@@ -81,7 +69,7 @@ fn programmed(r: Registers, c: Cycle, old: u8, k: Control) -> Decision
 {
     let control = r.control;
     let next = kept(c.read, control, k);
-    given(
+    replied(
         c.read,
         old,
         with_control(r, next.mr, next.sar, next.dscr),
@@ -132,7 +120,7 @@ pub fn entry(r: Registers, d: Descriptor, p: Part, c: Cycle) -> Decision
     let control = r.control;
     let i = command_descriptors::index_of(p, control.dscr);
     let next = command_descriptors::moved(control, p, c);
-    given(
+    replied(
         c.read,
         command_descriptors::byte_of(d, i),
         with_control(r, next.mr, next.sar, next.dscr),

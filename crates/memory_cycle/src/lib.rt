@@ -1,16 +1,16 @@
 // Document 01, "Fetch" and "Checks": what is decided in a memory cycle.
 ghost use mathlib.Core.Path.{_≡_};
 ghost use Rattle.rules.specs.Memory.{accessed, through, memory};
+use rules::Address;
 use rules::Cycle;
 use rules::Decision;
 use rules::Descriptor;
 use rules::Kind;
-use rules::Lines;
 use rules::Registers;
 use rules::Way;
 
 // A translated cycle that is no aborted fetch; `r` are the registers as it begins.
-fn accessed(r: Registers, d: Descriptor, c: Cycle, l: Lines) -> Decision
+fn accessed(r: Registers, d: Descriptor, c: Cycle, l: Address) -> Decision
     ensures { λ p. ⌜ p ≡ accessed r d c l ⌝ }
 {
     let rights = memory_rights::rights_of(d.attributes, c);
@@ -21,7 +21,7 @@ fn accessed(r: Registers, d: Descriptor, c: Cycle, l: Lines) -> Decision
 }
 
 // One that is no aborted fetch, by its way.
-fn through(way: Way, r: Registers, d: Descriptor, c: Cycle, l: Lines) -> Decision
+fn through(way: Way, r: Registers, d: Descriptor, c: Cycle, l: Address) -> Decision
     ensures { λ p. ⌜ p ≡ through way r d c l ⌝ }
 {
     match way {
@@ -37,7 +37,7 @@ pub fn memory(r: Registers, d: Descriptor, c: Cycle) -> Decision
 {
     let starts = memory_fetch::is_fetch(c);
     let way = memory_translation::way_of(r.control.mr, c);
-    let l = memory_translation::lines_of(way, d.base, c);
+    let l = memory_translation::address_of(way, d.base, c);
     let aborts = starts & r.notes.awaits;
     if aborts {
         return memory_outcomes::aborted(r, l);

@@ -12,9 +12,10 @@ use rules_flags::flag_if;
 use rules_registers::with_notes;
 use rules_registers::with_vtr;
 
-// What there is to record: a violation's flags, or PWW, or 0.
-pub fn event_of(dma: bool, violation: bool, warning: bool, rights: u8, long: bool) -> u8
-    ensures { λ r. ⌜ r ≡ eventOf dma violation warning rights long ⌝ }
+// What there is to record: a violation's flags, or PWW, or 0. The findings come one by one: a struct of four bytes is packed into a word,
+// here and in `checked`, and taken apart again in the built program.
+pub fn event_of(dma: bool, rights: u8, long: bool, violation: bool, warning: bool) -> u8
+    ensures { λ r. ⌜ r ≡ eventOf dma (record { rights = rights; long = long; violation = violation; warning = warning }) ⌝ }
 {
     if dma {
         return 0;
@@ -73,9 +74,8 @@ pub fn raised(r: Registers, flag: u8) -> Registers
     ensures { λ q. ⌜ q ≡ raised r flag ⌝ }
 {
     let asks = r.faults.vtr & Unit::FATL == 0;
-    let flagged = with_vtr(r, r.faults.vtr | flag);
     with_notes(
-        flagged,
+        added(r, flag),
         r.notes.request | asks,
         r.notes.awaits | asks,
         r.notes.own,

@@ -1,8 +1,8 @@
 // Document 01, "Translation": how a memory cycle goes through the unit, and the address lines.
 ghost use mathlib.Core.Path.{_≡_};
-ghost use Rattle.rules.specs.Translation.{wayOf, blockOf, linesOf};
+ghost use Rattle.rules.specs.Translation.{wayOf, blockOf, addressOf};
+use rules::Address;
 use rules::Cycle;
-use rules::Lines;
 use rules::Unit;
 use rules::Way;
 
@@ -46,19 +46,19 @@ pub fn block_of(base: u16, offset: u8) -> u16
 }
 
 // The address lines.
-pub fn lines_of(w: Way, base: u16, c: Cycle) -> Lines
-    ensures { λ l. ⌜ l ≡ linesOf w base c ⌝ }
+pub fn address_of(w: Way, base: u16, c: Cycle) -> Address
+    ensures { λ l. ⌜ l ≡ addressOf w base c ⌝ }
 {
     match w {
-        Way::Silent => Lines {
+        Way::Silent => Address {
             driven: false,
             block: 0,
         },
-        Way::Passed => Lines {
+        Way::Passed => Address {
             driven: true,
             block: c.segment as u16 * 256 + c.offset as u16,
         },
-        Way::Translated => Lines {
+        Way::Translated => Address {
             driven: true,
             block: block_of(base, c.offset),
         },

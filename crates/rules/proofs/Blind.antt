@@ -8,10 +8,10 @@ use lib.Dec.{eqb}
 use Rattle.rules.specs.Bus.{cpu}
 use Rattle.rules.specs.Status.{purposeOf, byPurpose, byStatus}
 use Rattle.rules.specs.Memory.{aborts, memoryBy, memory}
-use Rattle.rules.specs.Translation.{wayOf, linesOf}
+use Rattle.rules.specs.Translation.{wayOf, addressOf}
 use Rattle.rules.specs.Codes.{commandOf}
 use Rattle.rules.specs.Entry.{indexOf, replaced, writtenBy}
-use Rattle.rules.specs.Commands.{given, entry, executed, commanded}
+use Rattle.rules.specs.Commands.{replied, entry, executed, commanded}
 use Rattle.rules.specs.Step.{decidedBy, placeOf}
 use Rattle.rules.specs.declared.Change.{Change}
 use Rattle.rules.specs.declared.Change.the-variants.{Keep, Put, Raise}
@@ -79,11 +79,11 @@ looks r c =
 
 module _ (r : Registers) (d e : Descriptor) (c : Cycle) where
   memory-unseen : isTranslated (wayOf (r .control .mr) c) ≡ false → memory r d c ≡ memory r e c
-  unfolding memory linesOf
+  unfolding memory addressOf
   memory-unseen f = go (aborts r c) (wayOf (r .control .mr) c) f
     where
       go : (t : Bool) (w : Way) → isTranslated w ≡ false
-          → memoryBy t w r d c (linesOf w (d .base) c) ≡ memoryBy t w r e c (linesOf w (e .base) c)
+          → memoryBy t w r d c (addressOf w (d .base) c) ≡ memoryBy t w r e c (addressOf w (e .base) c)
       go t way.Translated f = absurd (true≢false f)
       go true way.Passed f = refl
       go true way.Silent f = refl
@@ -92,7 +92,7 @@ module _ (r : Registers) (d e : Descriptor) (c : Cycle) where
 
   executed-unseen : (m : Command) (read : Bool) → c .read ≡ read → shows m read ≡ false
       → Unseen d e (executed m read r d c) (executed m read r e c)
-  unfolding executed entry given writtenBy
+  unfolding executed entry replied writtenBy
   executed-unseen Mr read q f = unseen-refl _
   executed-unseen Sar read q f = unseen-refl _
   executed-unseen Dscr read q f = unseen-refl _

@@ -41,3 +41,17 @@ warnsBy false false false true edge = edge
 
 unfoldable pub warns : Descriptor → Cycle → (violation : Bool) → Bool
 warns d c violation = warnsBy (c .dma) (c .read) violation (has (d .attributes) DIRW) (eqb (c .offset) (d .limit))
+
+-- What the checks of a translated cycle find: the rights and the length that it violates, whether it violates at all, and whether it warns.
+pub record Findings : Type 0 where
+  pub rights : ℕ
+  pub long : Bool
+  pub violation : Bool
+  pub warning : Bool
+
+abbrev pub found : Descriptor → Cycle → Findings
+found d c =
+    let rights : ℕ = rightsOf (d .attributes) c in
+    let long : Bool = outOfLength d c in
+    let violation : Bool = violates rights long in
+    record { rights = rights; long = long; violation = violation; warning = warns d c violation }

@@ -4,7 +4,8 @@ use mathlib.Core.Bool.{true, false}
 use mathlib.Core.List.{List, [], _∷_, _++_}
 use Prim.Native.Nat.{ℕ, _+_}
 use lib.ListN.{set, replicate}
-use Rattle.rules.specs.Seen.{Row, row, below, segment, faults, noNote, everyNote, command, drivesByte, drivesNothing, refusal}
+use Rattle.rules.specs.PowerOn.{faultsOf}
+use Rattle.rules.specs.Seen.{Row, row, below, segment, noNote, everyNote, command, drivesByte, drivesNothing, refusal}
 use Rattle.rules.specs.declared.Descriptor.{Descriptor}
 use Rattle.rules.specs.declared.Notes.{Notes}
 use Rattle.rules.specs.declared.Unit.{Unit}
@@ -20,7 +21,7 @@ unitBy mr sar dscr vtr n table = record {
   table = table;
   registers = record {
     control = record { mr = mr; sar = sar; dscr = dscr };
-    faults = faults vtr 0x2A 0x9C 0x38;
+    faults = faultsOf vtr 0x2A 0x9C 0x38;
     fetched = record { isn = 0x13; ioff = 0x71 };
     notes = n;
   };

@@ -4,7 +4,8 @@ use Prim.Native.Nat.{ℕ, _%_}
 use Rattle.rules.specs.Flags.{without, flagIf}
 use Rattle.rules.specs.Masks.{CPUI, DMAI, SWW, FATL}
 use Rattle.rules.specs.PowerOn.{quiet}
-use Rattle.rules.specs.Refusals.{off, plain, refused}
+use Rattle.rules.specs.Answers.{spoken, plain, refused}
+use Rattle.rules.specs.Registers.{withControl, withVtr, withNotes}
 use Rattle.rules.specs.Codes.{commandOf}
 use Rattle.rules.specs.Entry.{byteOf, indexOf, moved, writtenBy}
 use Rattle.rules.specs.declared.Action.{Action}
@@ -24,20 +25,12 @@ use Rattle.rules.specs.declared.Change.the-variants as change
 use Rattle.rules.specs.declared.Kind.the-variants as kind
 
 -- "a read drives the byte read as it stood before any stepping; a write takes the cycle's data byte and drives none"
-unfoldable pub given : (read : Bool) → (byte : ℕ) → Registers → Change → Decision
-given read b r h = record {
-  answer = record { kind = kind.Command; lines = off; sup = false; trap = r .notes .request; drives = read; byte = flagIf read b };
-  registers = r;
-  change = h;
-}
-
--- the registers with MR, SAR and DSCR as said; "Other commands leave notes alone."
-unfoldable pub controlled : Registers → Control → Registers
-controlled r k = record { control = k; faults = r .faults; fetched = r .fetched; notes = r .notes }
+unfoldable pub replied : (read : Bool) → (byte : ℕ) → Registers → Change → Decision
+replied read b r h = record { answer = spoken kind.Command (r .notes .request) read (flagIf read b); registers = r; change = h }
 
 -- MR, SAR or DSCR: a read shows the old byte and leaves all, a write has the registers k for its result
 unfoldable pub programmed : Registers → Cycle → (old : ℕ) → Control → Decision
-programmed r c old k = given (c .read) old (controlled r (cond (c .read) (r .control) k)) change.Keep
+programmed r c old k = replied (c .read) old (withControl r (cond (c .read) (r .control) k)) change.Keep
 
 -- "read-only %02 VTR, %03 VSN, %04 VOFF, %05 BCSR, %06 ISN, %07 IOFF"
 abbrev pub registerOf : Registers → Register → ℕ
@@ -52,32 +45,19 @@ registerOf r Ioff = r .fetched .ioff
 unfoldable pub entry : Registers → Descriptor → Part → Cycle → Decision
 entry r d p c =
     let i : ℕ = indexOf p (r .control .dscr) in
-    given (c .read) (byteOf d i) (controlled r (moved (r .control) p c)) (writtenBy (c .read) d i (c .byte))
-
--- the VTR as said, all else left
-unfoldable pub cleared : Registers → (vtr : ℕ) → Registers
-cleared r vtr = record {
-  control = r .control;
-  faults = record { vtr = vtr; vsn = r .faults .vsn; voff = r .faults .voff; bcsr = r .faults .bcsr };
-  fetched = r .fetched;
-  notes = r .notes;
-}
+    replied (c .read) (byteOf d i) (withControl r (moved (r .control) p c)) (writtenBy (c .read) d i (c .byte))
 
 -- "clears MR, VTR, DSCR and the notes", MR to what is said; "The rest stays."
 unfoldable pub restarted : Registers → (mr : ℕ) → Registers
-restarted r mr = record {
-  control = record { mr = mr; sar = r .control .sar; dscr = 0 };
-  faults = record { vtr = 0; vsn = r .faults .vsn; voff = r .faults .voff; bcsr = r .faults .bcsr };
-  fetched = r .fetched;
-  notes = quiet;
-}
+restarted r mr =
+    withNotes (withVtr (withControl r (record { mr = mr; sar = r .control .sar; dscr = 0 })) 0) quiet
 
 -- the set and clear commands, which "ignore that byte". "Software reset clears MR, VTR, DSCR and the notes."
 unfoldable pub acted : Registers → Action → Decision
 acted r SoftwareReset = plain kind.Command (restarted r 0) change.Keep
-acted r ClearVtr = plain kind.Command (cleared r 0) change.Keep
-acted r ClearSww = plain kind.Command (cleared r (without (r .faults .vtr) SWW)) change.Keep
-acted r ClearFatl = plain kind.Command (cleared r (without (r .faults .vtr) FATL)) change.Keep
+acted r ClearVtr = plain kind.Command (withVtr r 0) change.Keep
+acted r ClearSww = plain kind.Command (withVtr r (without (r .faults .vtr) SWW)) change.Keep
+acted r ClearFatl = plain kind.Command (withVtr r (without (r .faults .vtr) FATL)) change.Keep
 acted r SetCpui = plain kind.Command r (change.Raise CPUI)
 acted r SetDmai = plain kind.Command r (change.Raise DMAI)
 
@@ -90,7 +70,7 @@ executed Sar read r d c =
     programmed r c (r .control .sar) (record { mr = r .control .mr; sar = c .byte % 64; dscr = r .control .dscr })
 executed Dscr read r d c =
     programmed r c (r .control .dscr) (record { mr = r .control .mr; sar = r .control .sar; dscr = c .byte % 4 })
-executed (Show g) true r d c = given true (registerOf r g) r change.Keep
+executed (Show g) true r d c = replied true (registerOf r g) r change.Keep
 executed (Show g) false r d c = refused 4 r
 executed (Entry p) read r d c = entry r d p c
 executed (Act a) true r d c = refused 4 r

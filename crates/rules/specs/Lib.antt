@@ -3,8 +3,10 @@
 pub mod PowerOn
 pub mod Masks
 pub mod Flags
--- "Numbers that say no"
+pub mod Registers
+-- "Numbers that say no", and what is answered
 pub mod Refusals
+pub mod Answers
 -- "Which cycle is what"; then "Fetch", "Translation", "Checks", "SUP", "Recording"
 pub mod Status
 pub mod Bus

@@ -1,29 +1,27 @@
 -- Document 01, "Fetch", "SUP", and the last paragraph of "Recording": what is decided in a memory cycle.
 use mathlib.Core.Bool.{Bool, true, false, not, cond, _&&_, _||_}
-use Prim.Native.Nat.{ℕ, _%_}
+use Prim.Native.Nat.{_%_}
 use lib.Dec.{eqb}
 use Rattle.rules.specs.Flags.{with, flagIf}
 use Rattle.rules.specs.Masks.{REF, CHG}
 use Rattle.rules.specs.Bus.{cpu, write, fetch}
-use Rattle.rules.specs.Checks.{rightsOf, outOfLength, violates, warns}
-use Rattle.rules.specs.Recording.{noting, eventOf, recorded}
-use Rattle.rules.specs.Translation.{wayOf, linesOf}
-use Rattle.rules.specs.declared.Answer.{Answer}
+use Rattle.rules.specs.Answers.{seen}
+use Rattle.rules.specs.Checks.{Findings, found}
+use Rattle.rules.specs.Recording.{eventOf, recorded}
+use Rattle.rules.specs.PowerOn.{notesOf}
+use Rattle.rules.specs.Registers.{withNotes}
+use Rattle.rules.specs.Translation.{wayOf, addressOf}
 use Rattle.rules.specs.declared.Change.{Change}
 use Rattle.rules.specs.declared.Cycle.{Cycle}
 use Rattle.rules.specs.declared.Decision.{Decision}
 use Rattle.rules.specs.declared.Descriptor.{Descriptor}
 use Rattle.rules.specs.declared.Kind.{Kind}
-use Rattle.rules.specs.declared.Lines.{Lines}
+use Rattle.rules.specs.declared.Address.{Address}
 use Rattle.rules.specs.declared.Registers.{Registers}
 use Rattle.rules.specs.declared.Way.{Way}
 use Rattle.rules.specs.declared.Change.the-variants as change
 use Rattle.rules.specs.declared.Kind.the-variants as kind
 use Rattle.rules.specs.declared.Way.the-variants as way
-
--- what a memory cycle answers: no data byte
-unfoldable pub seen : Kind → Lines → (sup trap : Bool) → Answer
-seen k l sup trap = record { kind = k; lines = l; sup = sup; trap = trap; drives = false; byte = 0 }
 
 -- Fetch
 
@@ -33,10 +31,10 @@ aborts r c = fetch c && r .notes .awaits
 
 -- "await, own and hold are cleared"
 unfoldable pub resumed : Registers → Registers
-resumed r = noting r (r .faults) (record { request = r .notes .request; awaits = false; own = false; hold = false })
+resumed r = withNotes r (notesOf (r .notes .request) false false false)
 
 -- "the address is driven as below, SUP is off, and nothing is checked or recorded"
-unfoldable pub aborted : Registers → Lines → Decision
+unfoldable pub aborted : Registers → Address → Decision
 aborted r l = record {
   answer = seen kind.Aborted l false (r .notes .request);
   registers = resumed r;
@@ -46,13 +44,7 @@ aborted r l = record {
 -- "Otherwise own and hold are cleared first, and the cycle goes on": the registers as a cycle begins that starts an instruction or not
 unfoldable pub begun : Registers → (starts : Bool) → Registers
 begun r starts =
-    noting r (r .faults)
-    (record {
-      request = r .notes .request;
-      awaits = r .notes .awaits;
-      own = r .notes .own && not starts;
-      hold = r .notes .hold && not starts;
-    })
+    withNotes r (notesOf (r .notes .request) (r .notes .awaits) (r .notes .own && not starts) (r .notes .hold && not starts))
 
 -- SUP. Below, r are the registers as the cycle begins.
 
@@ -61,7 +53,7 @@ abbrev pub suppressed : (violation : Bool) → Registers → Cycle → Bool
 suppressed violation r c = violation || cpu c && r .notes .hold
 
 -- a cycle that is not translated: no check, no recording
-unfoldable pub untranslated : Registers → Cycle → Lines → Kind → Decision
+unfoldable pub untranslated : Registers → Cycle → Address → Kind → Decision
 untranslated r c l k = record {
   answer = seen k l (suppressed false r c) (r .notes .request);
   registers = r;
@@ -90,41 +82,32 @@ noted r stores holds c = record {
   control = r .control;
   faults = r .faults;
   fetched = record { isn = cond stores (c .segment % 64) (r .fetched .isn); ioff = cond stores (c .offset) (r .fetched .ioff) };
-  notes = record {
-    request = r .notes .request;
-    awaits = r .notes .awaits;
-    own = r .notes .own;
-    hold = r .notes .hold || holds;
-  };
+  notes = notesOf (r .notes .request) (r .notes .awaits) (r .notes .own) (r .notes .hold || holds);
 }
 
--- a translated cycle, by its rights, its length, whether it violates and whether it warns: it is recorded, and "Every CPU violation
--- also sets hold."
-unfoldable pub checked : (rights : ℕ) → (long violation warning : Bool) → Registers → Descriptor → Cycle → Lines → Decision
-checked rights long violation warning r d c l =
-    let m : Registers = recorded r c (eventOf (c .dma) violation warning rights long) in
+-- a translated cycle, by what its checks find: it is recorded, and "Every CPU violation also sets hold."
+unfoldable pub checked : Findings → Registers → Descriptor → Cycle → Address → Decision
+checked f r d c l =
+    let m : Registers = recorded r c (eventOf (c .dma) f) in
+    let sup : Bool = suppressed (f .violation) r c in
     record {
-      answer = seen kind.Translated l (suppressed violation r c) (m .notes .request);
-      registers = noted m (storing r c violation) (violation && cpu c) c;
-      change = touchedBy (suppressed violation r c) d c;
+      answer = seen kind.Translated l sup (m .notes .request);
+      registers = noted m (storing r c (f .violation)) (f .violation && cpu c) c;
+      change = touchedBy sup d c;
     }
 
-unfoldable pub accessed : Registers → Descriptor → Cycle → Lines → Decision
-accessed r d c l =
-    let rights : ℕ = rightsOf (d .attributes) c in
-    let long : Bool = outOfLength d c in
-    let violation : Bool = violates rights long in
-    checked rights long violation (warns d c violation) r d c l
+unfoldable pub accessed : Registers → Descriptor → Cycle → Address → Decision
+accessed r d c l = checked (found d c) r d c l
 
 -- The memory cycle as a whole.
 
 -- one that is no aborted fetch
-abbrev pub through : Way → Registers → Descriptor → Cycle → Lines → Decision
+abbrev pub through : Way → Registers → Descriptor → Cycle → Address → Decision
 through way.Translated r d c l = accessed r d c l
 through way.Passed r d c l = untranslated r c l kind.Passed
 through way.Silent r d c l = untranslated r c l kind.Ignored
 
-abbrev pub memoryBy : (aborts : Bool) → Way → Registers → Descriptor → Cycle → Lines → Decision
+abbrev pub memoryBy : (aborts : Bool) → Way → Registers → Descriptor → Cycle → Address → Decision
 memoryBy true w r d c l = aborted r l
 memoryBy false w r d c l = through w (begun r (fetch c)) d c l
 
@@ -132,4 +115,4 @@ memoryBy false w r d c l = through w (begun r (fetch c)) d c l
 unfoldable pub memory : Registers → Descriptor → Cycle → Decision
 memory r d c =
     let w : Way = wayOf (r .control .mr) c in
-    memoryBy (aborts r c) w r d c (linesOf w (d .base) c)
+    memoryBy (aborts r c) w r d c (addressOf w (d .base) c)

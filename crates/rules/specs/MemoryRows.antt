@@ -3,7 +3,8 @@
 use mathlib.Core.Bool.{Bool, true, false}
 use mathlib.Core.List.{List, [], _∷_, _++_}
 use Prim.Native.Nat.{ℕ}
-use Rattle.rules.specs.Seen.{Row, row, segment, faults, notes, noNote, warned, everyNote, unitOf, cycle}
+use Rattle.rules.specs.PowerOn.{faultsOf, notesOf}
+use Rattle.rules.specs.Seen.{Row, row, segment, noNote, warned, everyNote, unitHolding, cycle}
 use Rattle.rules.specs.Seen.{drivesBlock, drivesNothing, translated}
 use Rattle.rules.specs.declared.Cycle.{Cycle}
 use Rattle.rules.specs.declared.Notes.{Notes}
@@ -12,14 +13,14 @@ use Rattle.rules.specs.declared.Kind.the-variants as kind
 
 -- a unit by MR, VTR, notes and the attributes of segment 5, which has base %2300 and limit %40
 abbrev pub unitAs : (mr vtr : ℕ) → Notes → (attributes : ℕ) → Unit
-unitAs mr vtr n a = unitOf mr 0 0 (faults vtr 0x2A 0x9C 0x38) 0x13 0x71 n 5 (segment 0x2300 0x40 a)
+unitAs mr vtr n a = unitHolding mr 0 0 (faultsOf vtr 0x2A 0x9C 0x38) 0x13 0x71 n 5 (segment 0x2300 0x40 a)
 
 -- the same that translates; and with an instruction of segment 5 stored
 abbrev pub unitIn : (vtr : ℕ) → Notes → (attributes : ℕ) → Unit
 unitIn = unitAs 0xC0
 
 abbrev pub fetchedAt : (mr ioff : ℕ) → Notes → (attributes : ℕ) → Unit
-fetchedAt mr ioff n a = unitOf mr 0 0 (faults 0 0x2A 0x9C 0x38) 5 ioff n 5 (segment 0x2300 0x40 a)
+fetchedAt mr ioff n a = unitHolding mr 0 0 (faultsOf 0 0x2A 0x9C 0x38) 5 ioff n 5 (segment 0x2300 0x40 a)
 
 -- cycles of segment 5
 abbrev pub fetchAt : (offset : ℕ) → Cycle
@@ -33,7 +34,7 @@ writeAt m status o = cycle false false m status 5 o
 
 -- the request alone
 abbrev pub requested : Notes
-requested = notes true false false false
+requested = notesOf true false false false
 
 -- "If await is set, this is the aborted fetch: await, own and hold are cleared, the address is driven as below, SUP is off, and nothing is
 -- checked or recorded." Offset %41 is past the limit, and %04 is CPUI.
@@ -41,7 +42,7 @@ abbrev pub abortedFetches : List Row
 abortedFetches =
     row (unitIn 0 everyNote 0) (fetchAt 0x15) (drivesBlock kind.Aborted 0x2315 false true) (unitIn 0 requested 0) ∷
     row (unitIn 0x08 everyNote 0x04) (fetchAt 0x41) (drivesBlock kind.Aborted 0x2341 false true) (unitIn 0x08 requested 0x04) ∷
-    row (unitIn 0 (notes false true true true) 0) (fetchAt 0x15) (drivesBlock kind.Aborted 0x2315 false false) (unitIn 0 noNote 0) ∷
+    row (unitIn 0 (notesOf false true true true) 0) (fetchAt 0x15) (drivesBlock kind.Aborted 0x2315 false false) (unitIn 0 noNote 0) ∷
     row (unitAs 0x80 0 everyNote 0) (fetchAt 0x15) (drivesBlock kind.Aborted 0x0515 false true) (unitAs 0x80 0 requested 0) ∷
     row (unitAs 0 0 everyNote 0) (fetchAt 0x15) (drivesNothing kind.Aborted false true) (unitAs 0 0 requested 0) ∷
     []
@@ -50,15 +51,15 @@ abortedFetches =
 -- (segment modulo 64) and IOFF while VTR is zero."
 abbrev pub fetches : List Row
 fetches =
-    row (unitIn 0 (notes true false true true) 0) (fetchAt 0x15) (translated 0x2315 false true) (fetchedAt 0xC0 0x15 requested 0x80) ∷
+    row (unitIn 0 (notesOf true false true true) 0) (fetchAt 0x15) (translated 0x2315 false true) (fetchedAt 0xC0 0x15 requested 0x80) ∷
     row (unitAs 0xE0 0 noNote 0) (cycle false true true 0xD 69 0x15) (translated 0x2315 false false) (fetchedAt 0xE0 0x15 noNote 0x80) ∷
-    row (unitIn 0x20 (notes true false true true) 0) (fetchAt 0x15) (translated 0x2315 false true) (unitIn 0x20 requested 0x80) ∷
-    row (unitIn 0x20 (notes true false true true) 0) (fetchAt 0x41) (translated 0x2341 true true)
-    (unitIn 0xA0 (notes true true false true) 0) ∷
+    row (unitIn 0x20 (notesOf true false true true) 0) (fetchAt 0x15) (translated 0x2315 false true) (unitIn 0x20 requested 0x80) ∷
+    row (unitIn 0x20 (notesOf true false true true) 0) (fetchAt 0x41) (translated 0x2341 true true)
+    (unitIn 0xA0 (notesOf true true false true) 0) ∷
     row (unitIn 0 noNote 0) (fetchAt 0x41) (translated 0x2341 true true)
-    (unitOf 0xC0 0 0 (faults 0x04 5 0x41 0x3D) 0x13 0x71 everyNote 5 (segment 0x2300 0x40 0)) ∷
-    row (unitAs 0x80 0 (notes true false true true) 0) (fetchAt 0x15) (drivesBlock kind.Passed 0x0515 false true) (unitAs 0x80 0 requested 0) ∷
-    row (unitAs 0 0 (notes true false true true) 0) (fetchAt 0x15) (drivesNothing kind.Ignored false true) (unitAs 0 0 requested 0) ∷
+    (unitHolding 0xC0 0 0 (faultsOf 0x04 5 0x41 0x3D) 0x13 0x71 everyNote 5 (segment 0x2300 0x40 0)) ∷
+    row (unitAs 0x80 0 (notesOf true false true true) 0) (fetchAt 0x15) (drivesBlock kind.Passed 0x0515 false true) (unitAs 0x80 0 requested 0) ∷
+    row (unitAs 0 0 (notesOf true false true true) 0) (fetchAt 0x15) (drivesNothing kind.Ignored false true) (unitAs 0 0 requested 0) ∷
     []
 
 -- "A CPU read with status %D starts an instruction"; "A write with status %D starts nothing and records no instruction address."
@@ -99,9 +100,9 @@ warns m status vtr n trap left k =
 abbrev pub firstEntries : List Row
 firstEntries =
     row (unitIn 0 noNote 0) (readAt 0x41) (translated 0x2341 true true)
-    (unitOf 0xC0 0 0 (faults 0x04 5 0x41 0x38) 0x13 0x71 everyNote 5 (segment 0x2300 0x40 0)) ∷
+    (unitHolding 0xC0 0 0 (faultsOf 0x04 5 0x41 0x38) 0x13 0x71 everyNote 5 (segment 0x2300 0x40 0)) ∷
     row (unitIn 0 warned 0) (readAt 0x41) (translated 0x2341 true true)
-    (unitOf 0xC0 0 0 (faults 0x04 5 0x41 0x38) 0x13 0x71 everyNote 5 (segment 0x2300 0x40 0)) ∷
+    (unitHolding 0xC0 0 0 (faultsOf 0x04 5 0x41 0x38) 0x13 0x71 everyNote 5 (segment 0x2300 0x40 0)) ∷
     []
 
 -- "A primary flag, and own set: flags are added, nothing else; addresses stay." "Every CPU violation also sets hold."
@@ -109,32 +110,32 @@ abbrev pub sameInstruction : List Row
 sameInstruction =
     violates 0x01 everyNote true 0x05 everyNote ∷
     violates 0x20 warned true 0x24 everyNote ∷
-    violates 0xA0 (notes false false true false) false 0xA4 (notes false false true true) ∷
+    violates 0xA0 (notesOf false false true false) false 0xA4 (notesOf false false true true) ∷
     warns false 0x9 0x01 warned true 0x21 warned ∷
-    warns true 0x8 0x01 (notes false false true false) false 0x21 (notes false false true false) ∷
+    warns true 0x8 0x01 (notesOf false false true false) false 0x21 (notesOf false false true false) ∷
     row (unitIn 0x01 everyNote 0x20) (writeAt true 0x8 0x40) (translated 0x2340 true true) (unitIn 0x21 everyNote 0x20) ∷
     []
 
 -- "A primary flag, own clear, violation: FATL is set; request and await only if FATL was clear.": at the system stack too
 abbrev pub fatal : List Row
 fatal =
-    violates 0x01 noNote true 0x81 (notes true true false true) ∷
-    violates 0x61 requested true 0xE1 (notes true true false true) ∷
-    violates 0x81 noNote false 0x81 (notes false false false true) ∷
-    row (unitIn 0x01 noNote 0) (writeAt false 0x9 0x41) (translated 0x2341 true true) (unitIn 0x81 (notes true true false true) 0) ∷
+    violates 0x01 noNote true 0x81 (notesOf true true false true) ∷
+    violates 0x61 requested true 0xE1 (notesOf true true false true) ∷
+    violates 0x81 noNote false 0x81 (notesOf false false false true) ∷
+    row (unitIn 0x01 noNote 0) (writeAt false 0x9 0x41) (translated 0x2341 true true) (unitIn 0x81 (notesOf true true false true) 0) ∷
     []
 
 -- "A primary flag, own clear, warning in system mode at status %9: if SWW is clear it is set, with request and await only while FATL is clear.
 -- If SWW stands, nothing." "The same, any other warning: as for a violation, FATL."
 abbrev pub laterWarnings : List Row
 laterWarnings =
-    warns false 0x9 0x01 noNote true 0x41 (notes true true false false) ∷
+    warns false 0x9 0x01 noNote true 0x41 (notesOf true true false false) ∷
     warns false 0x9 0x81 noNote false 0xC1 noNote ∷
     warns false 0x9 0x41 noNote false 0x41 noNote ∷
     warns false 0x9 0xC1 noNote false 0xC1 noNote ∷
-    warns true 0x9 0x01 noNote true 0x81 (notes true true false false) ∷
-    warns false 0xB 0x01 noNote true 0x81 (notes true true false false) ∷
-    warns false 0x8 0x41 noNote true 0xC1 (notes true true false false) ∷
+    warns true 0x9 0x01 noNote true 0x81 (notesOf true true false false) ∷
+    warns false 0xB 0x01 noNote true 0x81 (notesOf true true false false) ∷
+    warns false 0x8 0x41 noNote true 0xC1 (notesOf true true false false) ∷
     warns true 0xD 0x81 noNote false 0x81 noNote ∷
     []
 

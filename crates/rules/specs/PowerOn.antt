@@ -1,26 +1,39 @@
--- Document 01, "What the unit is given, what it keeps": the unit at power-on. The types are those of src/lib.rt.
-use mathlib.Core.Bool.{false}
+-- Document 01, "What the unit is given, what it keeps": a unit by what it keeps, and the unit at power-on. The types are those of src/lib.rt.
+use mathlib.Core.Bool.{Bool, false}
+use mathlib.Core.List.{List}
+use Prim.Native.Nat.{ℕ}
 use lib.ListN.{replicate}
 use Rattle.rules.specs.declared.Descriptor.{Descriptor}
+use Rattle.rules.specs.declared.Faults.{Faults}
 use Rattle.rules.specs.declared.Notes.{Notes}
 use Rattle.rules.specs.declared.Unit.{Unit}
 
+abbrev pub faultsOf : (vtr vsn voff bcsr : ℕ) → Faults
+faultsOf vtr vsn voff bcsr = record { vtr = vtr; vsn = vsn; voff = voff; bcsr = bcsr }
+
+abbrev pub notesOf : (request awaits own hold : Bool) → Notes
+notesOf request awaits own hold = record { request = request; awaits = awaits; own = own; hold = hold }
+
+-- a unit by its descriptors and all its registers, in document 01's order
+abbrev pub unitOf : List Descriptor → (mr sar dscr : ℕ) → Faults → (isn ioff : ℕ) → Notes → Unit
+unitOf t mr sar dscr f isn ioff n = record {
+  table = t;
+  registers = record {
+    control = record { mr = mr; sar = sar; dscr = dscr };
+    faults = f;
+    fetched = record { isn = isn; ioff = ioff };
+    notes = n;
+  };
+}
+
 -- a descriptor of zeros
-abbrev pub none : Descriptor
-none = record { base = 0; limit = 0; attributes = 0 }
+abbrev pub blank : Descriptor
+blank = record { base = 0; limit = 0; attributes = 0 }
 
 -- the four notes, all false
 abbrev pub quiet : Notes
-quiet = record { request = false; awaits = false; own = false; hold = false }
+quiet = notesOf false false false false
 
 -- "At power-on all are zero and false."
 abbrev pub powerOn : Unit
-powerOn = record {
-  table = replicate 64 none;
-  registers = record {
-    control = record { mr = 0; sar = 0; dscr = 0 };
-    faults = record { vtr = 0; vsn = 0; voff = 0; bcsr = 0 };
-    fetched = record { isn = 0; ioff = 0 };
-    notes = quiet;
-  };
-}
+powerOn = unitOf (replicate 64 blank) 0 0 0 (faultsOf 0 0 0 0) 0 0 quiet

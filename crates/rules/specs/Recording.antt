@@ -5,8 +5,10 @@ use Prim.Native.Nat.{ℕ, _%_}
 use lib.Dec.{eqb}
 use Rattle.rules.specs.Flags.{has, lacks, with, flagIf}
 use Rattle.rules.specs.Masks.{SLV, PWW, SWW, FATL, PRIMARY, READ, NORMAL}
+use Rattle.rules.specs.Checks.{Findings}
+use Rattle.rules.specs.PowerOn.{faultsOf, notesOf}
+use Rattle.rules.specs.Registers.{withVtr, withNotes}
 use Rattle.rules.specs.declared.Cycle.{Cycle}
-use Rattle.rules.specs.declared.Faults.{Faults}
 use Rattle.rules.specs.declared.Notes.{Notes}
 use Rattle.rules.specs.declared.Registers.{Registers}
 
@@ -17,31 +19,25 @@ eventBy false true warning flags = flags
 eventBy false false true flags = PWW
 eventBy false false false flags = 0
 
-unfoldable pub eventOf : (dma violation warning : Bool) → (rights : ℕ) → (long : Bool) → ℕ
-eventOf dma violation warning rights long = eventBy dma violation warning (with rights (flagIf long SLV))
+unfoldable pub eventOf : (dma : Bool) → Findings → ℕ
+eventOf dma f = eventBy dma (f .violation) (f .warning) (with (f .rights) (flagIf (f .long) SLV))
 
 -- "bits 0 to 3 status, bit 4 set for read, bit 5 set for normal mode, the rest 0"
 unfoldable pub busStatus : Cycle → ℕ
 busStatus c = with (with (c .status % 16) (flagIf (c .read) READ)) (flagIf (c .normal) NORMAL)
 
--- the registers with other faults and notes
-abbrev pub noting : Registers → Faults → Notes → Registers
-noting r f n = record { control = r .control; faults = f; fetched = r .fetched; notes = n }
-
--- the VTR with flags added; "addresses stay"
-abbrev pub flagged : Faults → ℕ → Faults
-flagged f flags = record { vtr = with (f .vtr) flags; vsn = f .vsn; voff = f .voff; bcsr = f .bcsr }
-
 -- "its violation flags, or PWW, are added; VSN (segment modulo 64), VOFF and BCSR are stored; own is set; request and await are set."
 unfoldable pub firstEntry : Registers → Cycle → (event : ℕ) → Registers
-firstEntry r c event =
-    noting r
-    (record { vtr = with (r .faults .vtr) event; vsn = c .segment % 64; voff = c .offset; bcsr = busStatus c })
-    (record { request = true; awaits = true; own = true; hold = r .notes .hold })
+firstEntry r c event = record {
+  control = r .control;
+  faults = faultsOf (with (r .faults .vtr) event) (c .segment % 64) (c .offset) (busStatus c);
+  fetched = r .fetched;
+  notes = notesOf true true true (r .notes .hold);
+}
 
 -- "flags are added, nothing else; addresses stay"
 unfoldable pub added : Registers → (event : ℕ) → Registers
-added r event = noting r (flagged (r .faults) event) (r .notes)
+added r event = withVtr r (with (r .faults .vtr) event)
 
 -- request and await set where `asks` holds, else as they were
 abbrev pub asked : Notes → (asks : Bool) → Notes
@@ -49,7 +45,7 @@ asked n asks = record { request = n .request || asks; awaits = n .awaits || asks
 
 -- "FATL is set; request and await only if FATL was clear"; the same of SWW, "with request and await only while FATL is clear"
 unfoldable pub raised : Registers → (flag : ℕ) → Registers
-raised r flag = noting r (flagged (r .faults) flag) (asked (r .notes) (lacks (r .faults .vtr) FATL))
+raised r flag = withNotes (added r flag) (asked (r .notes) (lacks (r .faults .vtr) FATL))
 
 -- "warning in system mode at status %9"
 abbrev pub stackWarning : Cycle → (event : ℕ) → Bool

@@ -4,7 +4,8 @@
 use mathlib.Core.Bool.{Bool, true, false}
 use mathlib.Core.List.{List, [], _∷_, _++_}
 use Prim.Native.Nat.{ℕ, suc, _+_}
-use Rattle.rules.specs.Seen.{Row, row, rowAfter, below, faults, notes, noNote, warned, everyNote, unitOf, standing}
+use Rattle.rules.specs.PowerOn.{faultsOf, notesOf}
+use Rattle.rules.specs.Seen.{Row, row, rowAfter, below, noNote, warned, everyNote, unitHolding, standing}
 use Rattle.rules.specs.Seen.{segment, unitWith, translating, cycle, reads, writes, pushes, acknowledge, command, resets}
 use Rattle.rules.specs.Seen.{drivesBlock, drivesByte, drivesNothing, translated, refusal}
 use Rattle.rules.specs.declared.Unit.{Unit}
@@ -28,16 +29,16 @@ writePasses l a o = row (translating (segment 0 l a)) (writes o) (translated o f
 
 abbrev pub readIsSlv : (limit attributes offset : ℕ) → Row
 readIsSlv l a o =
-    row (translating (segment 0 l a)) (reads o) (translated o true true) (standing (faults 0x04 0 o 0x38) everyNote (segment 0 l a))
+    row (translating (segment 0 l a)) (reads o) (translated o true true) (standing (faultsOf 0x04 0 o 0x38) everyNote (segment 0 l a))
 
 abbrev pub writeIsSlv : (limit attributes offset : ℕ) → Row
 writeIsSlv l a o =
-    row (translating (segment 0 l a)) (writes o) (translated o true true) (standing (faults 0x04 0 o 0x28) everyNote (segment 0 l a))
+    row (translating (segment 0 l a)) (writes o) (translated o true true) (standing (faultsOf 0x04 0 o 0x28) everyNote (segment 0 l a))
 
 abbrev pub writeWarns : (limit attributes offset : ℕ) → Row
 writeWarns l a o =
     row (translating (segment 0 l a)) (writes o) (translated o false true)
-    (standing (faults 0x20 0 o 0x28) warned (segment 0 l (a + 0xC0)))
+    (standing (faultsOf 0x20 0 o 0x28) warned (segment 0 l (a + 0xC0)))
 
 -- "P3 limit %02: offset %02 passes, %03 is SLV. Limit %FF: all pass."
 -- "P4 DIRW, limit %F0: write at %F0 warns, %EF is SLV, %F1 neither."
@@ -60,18 +61,18 @@ lengths =
 abbrev pub recording : List Row
 recording =
     row (unitWith 0xE0 1 (segment 0 0x02 0x01)) (cycle false false true 8 65 0x93) (translated 0x93 true true)
-    (unitOf 0xE0 0 0 (faults 0x05 0x01 0x93 0x28) 0 0 everyNote 1 (segment 0 0x02 0x01)) ∷
+    (unitHolding 0xE0 0 0 (faultsOf 0x05 0x01 0x93 0x28) 0 0 everyNote 1 (segment 0 0x02 0x01)) ∷
     []
 
 -- at SAR 63 and DSCR 3, byte 3 of a descriptor is its attributes
 abbrev pub lastByte : (sar dscr attributes : ℕ) → Unit
-lastByte sar dscr attributes = unitOf 0 sar dscr (faults 0 0 0 0) 0 0 noNote 63 (segment 0x1234 0x56 attributes)
+lastByte sar dscr attributes = unitHolding 0 sar dscr (faultsOf 0 0 0 0) 0 0 noNote 63 (segment 0x1234 0x56 attributes)
 
 -- "P7 MSEN, ID 2, request, acknowledge: data %04. P8 SAR 63, DSCR 3, %0F: SAR 0, DSCR 0", read and written
 abbrev pub commands : List Row
 commands =
-    row (unitOf 0x82 0 0 (faults 0x04 0 0 0) 0 0 everyNote 0 (segment 0 0 0)) acknowledge (drivesByte kind.Acknowledge 0x04 false)
-    (unitOf 0x82 0 0 (faults 0x04 0 0 0) 0 0 noNote 0 (segment 0 0 0)) ∷
+    row (unitHolding 0x82 0 0 (faultsOf 0x04 0 0 0) 0 0 everyNote 0 (segment 0 0 0)) acknowledge (drivesByte kind.Acknowledge 0x04 false)
+    (unitHolding 0x82 0 0 (faultsOf 0x04 0 0 0) 0 0 noNote 0 (segment 0 0 0)) ∷
     row (lastByte 63 3 0x78) (command true 0x0F 0x9A) (drivesByte kind.Command 0x78 false) (lastByte 0 0 0x78) ∷
     row (lastByte 63 3 0x78) (command false 0x0F 0x9A) (drivesNothing kind.Command false false) (lastByte 0 0 0x9A) ∷
     []
@@ -81,15 +82,15 @@ commands =
 abbrev pub others : List Row
 others =
     row (translating (segment 0 0xFF 0x01)) (cycle true false true 8 0 0) (translated 0 true false) (translating (segment 0 0xFF 0x01)) ∷
-    row (standing (faults 0x04 0 0 0x28) everyNote (segment 0 0xFF 0x01)) (cycle true false true 8 0 0) (translated 0 true true)
-    (standing (faults 0x04 0 0 0x28) everyNote (segment 0 0xFF 0x01)) ∷
+    row (standing (faultsOf 0x04 0 0 0x28) everyNote (segment 0 0xFF 0x01)) (cycle true false true 8 0 0) (translated 0 true true)
+    (standing (faultsOf 0x04 0 0 0x28) everyNote (segment 0 0xFF 0x01)) ∷
     row (unitWith 0x80 5 (segment 0x2311 0 0)) (cycle false true true 8 5 0x15) (drivesBlock kind.Passed 0x0515 false false)
     (unitWith 0x80 5 (segment 0x2311 0 0)) ∷
     []
 
 -- a system stack down to block %F0, marked by a write; what stands in the VTR, and its companions from the first warning
 abbrev pub stack : (vtr : ℕ) → (request awaits own : Bool) → Unit
-stack vtr request awaits own = standing (faults vtr 0 0xF0 0x09) (notes request awaits own false) (segment 0 0xF0 0xE0)
+stack vtr request awaits own = standing (faultsOf vtr 0 0xF0 0x09) (notesOf request awaits own false) (segment 0 0xF0 0xE0)
 
 -- "P11 PWW, acknowledge, two system stack warnings: VTR %60 after the first, which requests; the second changes nothing in VTR and
 -- requests nothing": it leaves the request, standing or acknowledged
@@ -106,7 +107,7 @@ stacks =
 
 -- a unit with a VTR and its request
 abbrev pub unitAt : (vtr : ℕ) → Unit
-unitAt vtr = standing (faults vtr 0 0 0) (notes true false false false) (segment 0 0 0)
+unitAt vtr = standing (faultsOf vtr 0 0 0) (notesOf true false false false) (segment 0 0 0)
 
 -- Ticket 11. SWW alone, FATL alone, both: "such a VTR counts as damaged", and neither a reset nor clear VTR mends it. A clear command on
 -- PWW beside both leaves a primary flag or nothing.

@@ -7,7 +7,7 @@ use Prim.Native.Nat.{ℕ, zero, suc}
 use lib.Dec.{eqb}
 use lib.ListN.{set}
 use Rattle.rules.specs.Kinds.{letterOf, numberOf}
-use Rattle.rules.specs.PowerOn.{powerOn}
+use Rattle.rules.specs.PowerOn.{faultsOf, notesOf, unitOf, powerOn}
 use Rattle.rules.specs.Step.{stepped}
 use Rattle.rules.specs.Runs.{final}
 use Rattle.rules.specs.declared.Answer.{Answer}
@@ -44,7 +44,7 @@ sameBit false false = true
 abbrev pub sameAnswer : Answer → Answer → Bool
 sameAnswer a b =
     eqb (letterOf (a .kind)) (letterOf (b .kind)) && eqb (numberOf (a .kind)) (numberOf (b .kind))
-    && sameBit (a .lines .driven) (b .lines .driven) && eqb (a .lines .block) (b .lines .block)
+    && sameBit (a .address .driven) (b .address .driven) && eqb (a .address .block) (b .address .block)
     && sameBit (a .sup) (b .sup) && sameBit (a .trap) (b .trap)
     && sameBit (a .drives) (b .drives) && eqb (a .byte) (b .byte)
 
@@ -88,60 +88,49 @@ below (suc n) f = f n ∷ below n f
 abbrev pub segment : (base limit attributes : ℕ) → Descriptor
 segment base limit attributes = record { base = base; limit = limit; attributes = attributes }
 
-abbrev pub faults : (vtr vsn voff bcsr : ℕ) → Faults
-faults vtr vsn voff bcsr = record { vtr = vtr; vsn = vsn; voff = voff; bcsr = bcsr }
-
-abbrev pub notes : (request awaits own hold : Bool) → Notes
-notes request awaits own hold = record { request = request; awaits = awaits; own = own; hold = hold }
-
 abbrev pub noNote : Notes
-noNote = notes false false false false
+noNote = notesOf false false false false
 
 -- request, await and own of a first entry, and with hold
 abbrev pub warned : Notes
-warned = notes true true true false
+warned = notesOf true true true false
 
 abbrev pub everyNote : Notes
-everyNote = notes true true true true
+everyNote = notesOf true true true true
 
 -- a unit by all its registers, in document 01's order, and one descriptor
-abbrev pub unitOf : (mr sar dscr : ℕ) → Faults → (isn ioff : ℕ) → Notes → (number : ℕ) → Descriptor → Unit
-unitOf mr sar dscr f isn ioff n number d = record {
-  table = set (powerOn .table) number d;
-  registers = record {
-    control = record { mr = mr; sar = sar; dscr = dscr };
-    faults = f;
-    fetched = record { isn = isn; ioff = ioff };
-    notes = n;
-  };
-}
+abbrev pub unitHolding : (mr sar dscr : ℕ) → Faults → (isn ioff : ℕ) → Notes → (number : ℕ) → Descriptor → Unit
+unitHolding mr sar dscr f isn ioff n number d = unitOf (set (powerOn .table) number d) mr sar dscr f isn ioff n
 
 -- a unit with MR and one descriptor, else as at power-on
 abbrev pub unitWith : (mr number : ℕ) → Descriptor → Unit
-unitWith mr n d = unitOf mr 0 0 (faults 0 0 0 0) 0 0 noNote n d
+unitWith mr n d = unitHolding mr 0 0 (faultsOf 0 0 0 0) 0 0 noNote n d
 
 -- MSEN and TRNS, what stands in the faults and notes, and segment 0
 abbrev pub standing : Faults → Notes → Descriptor → Unit
-standing f n d = unitOf 0xC0 0 0 f 0 0 n 0 d
+standing f n d = unitHolding 0xC0 0 0 f 0 0 n 0 d
 
 abbrev pub translating : Descriptor → Unit
 translating d = unitWith 0xC0 0 d
 
 -- Cycles
 
--- a cycle of the CPU or of DMA, not selected
-abbrev pub cycle : (dma read normal : Bool) → (status number offset : ℕ) → Cycle
-cycle dma read normal status number offset = record {
+abbrev pub cycleWith : (status : ℕ) → (read normal dma select : Bool) → (number offset byte : ℕ) → (reset : Bool) → Cycle
+cycleWith status read normal dma select number offset b reset = record {
   status = status;
   read = read;
   normal = normal;
   dma = dma;
-  select = false;
+  select = select;
   segment = number;
   offset = offset;
-  byte = 0;
-  reset = false;
+  byte = b;
+  reset = reset;
 }
+
+-- a cycle of the CPU or of DMA, not selected
+abbrev pub cycle : (dma read normal : Bool) → (status number offset : ℕ) → Cycle
+cycle dma read normal status number offset = cycleWith status read normal dma false number offset 0 false
 
 -- normal data read and write at an offset byte of segment 0
 abbrev pub reads : (offset : ℕ) → Cycle
@@ -159,83 +148,42 @@ acknowledge = cycle false true false 4 0 0
 
 -- a selected command of the CPU
 abbrev pub command : (read : Bool) → (code byte : ℕ) → Cycle
-command read code b = record {
-  status = 3;
-  read = read;
-  normal = false;
-  dma = false;
-  select = true;
-  segment = 0;
-  offset = code;
-  byte = b;
-  reset = false;
-}
+command read code b = cycleWith 3 read false false true 0 code b false
 
 -- a selected read of the CPU or of DMA
 abbrev pub selected : (dma : Bool) → (status number offset : ℕ) → Cycle
-selected dma status number offset = record {
-  status = status;
-  read = true;
-  normal = true;
-  dma = dma;
-  select = true;
-  segment = number;
-  offset = offset;
-  byte = 0;
-  reset = false;
-}
+selected dma status number offset = cycleWith status true true dma true number offset 0 false
 
 -- the reset line on, with a status and select
 abbrev pub resetAt : (status : ℕ) → (select : Bool) → Cycle
-resetAt status select = record {
-  status = status;
-  read = true;
-  normal = false;
-  dma = false;
-  select = select;
-  segment = 0;
-  offset = 0;
-  byte = 0;
-  reset = true;
-}
+resetAt status select = cycleWith status true false false select 0 0 0 true
 
 abbrev pub resets : Cycle
 resets = resetAt 0 false
 
 -- Answers
 
--- the address driven, and no data byte
-abbrev pub drivesBlock : Kind → (block : ℕ) → (sup trap : Bool) → Answer
-drivesBlock k block sup trap = record {
+abbrev pub answerOf : Kind → (driven : Bool) → (block : ℕ) → (sup trap drives : Bool) → (byte : ℕ) → Answer
+answerOf k driven block sup trap drives b = record {
   kind = k;
-  lines = record { driven = true; block = block };
+  address = record { driven = driven; block = block };
   sup = sup;
   trap = trap;
-  drives = false;
-  byte = 0;
-}
-
--- the data byte driven, and no address
-abbrev pub drivesByte : Kind → (byte : ℕ) → (trap : Bool) → Answer
-drivesByte k b trap = record {
-  kind = k;
-  lines = record { driven = false; block = 0 };
-  sup = false;
-  trap = trap;
-  drives = true;
+  drives = drives;
   byte = b;
 }
 
+-- the address driven, and no data byte
+abbrev pub drivesBlock : Kind → (block : ℕ) → (sup trap : Bool) → Answer
+drivesBlock k block sup trap = answerOf k true block sup trap false 0
+
+-- the data byte driven, and no address
+abbrev pub drivesByte : Kind → (byte : ℕ) → (trap : Bool) → Answer
+drivesByte k b trap = answerOf k false 0 false trap true b
+
 -- "not driven, [..] marked so and has the value 0"
 abbrev pub drivesNothing : Kind → (sup trap : Bool) → Answer
-drivesNothing k sup trap = record {
-  kind = k;
-  lines = record { driven = false; block = 0 };
-  sup = sup;
-  trap = trap;
-  drives = false;
-  byte = 0;
-}
+drivesNothing k sup trap = answerOf k false 0 sup trap false 0
 
 abbrev pub translated : (block : ℕ) → (sup trap : Bool) → Answer
 translated = drivesBlock kind.Translated

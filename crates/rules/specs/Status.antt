@@ -6,8 +6,8 @@ use Rattle.rules.specs.Flags.{has}
 use Rattle.rules.specs.Masks.{MSEN}
 use Rattle.rules.specs.Bus.{cpu}
 use Rattle.rules.specs.PowerOn.{quiet}
-use Rattle.rules.specs.Refusals.{off, plain}
-use Rattle.rules.specs.Recording.{noting}
+use Rattle.rules.specs.Answers.{spoken, plain}
+use Rattle.rules.specs.Registers.{withNotes}
 use Rattle.rules.specs.Memory.{memory}
 use Rattle.rules.specs.Commands.{restarted, commanded}
 use Rattle.rules.specs.declared.Cycle.{Cycle}
@@ -29,19 +29,12 @@ acknowledgeByte r = cond (has (r .control .mr) MSEN && r .notes .request) (2 ^ (
 
 -- "Then all four notes are cleared, with MSEN set or not."
 unfoldable pub quieted : Registers → Registers
-quieted r = noting r (r .faults) quiet
+quieted r = withNotes r quiet
 
 -- "2. Status 4, CPU: acknowledge."
 unfoldable pub acknowledged : Registers → Decision
 acknowledged r = record {
-  answer = record {
-    kind = kind.Acknowledge;
-    lines = off;
-    sup = false;
-    trap = false;
-    drives = has (r .control .mr) MSEN;
-    byte = acknowledgeByte r;
-  };
+  answer = spoken kind.Acknowledge false (has (r .control .mr) MSEN) (acknowledgeByte r);
   registers = quieted r;
   change = change.Keep;
 }

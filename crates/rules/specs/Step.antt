@@ -5,8 +5,9 @@ use Prim.Native.Nat.{ℕ, _%_}
 use lib.Dec.{eqb}
 use lib.ListN.{getD, set}
 use Rattle.rules.specs.Flags.{with}
-use Rattle.rules.specs.PowerOn.{none}
-use Rattle.rules.specs.Refusals.{damaged, outOfRange, refused}
+use Rattle.rules.specs.PowerOn.{blank}
+use Rattle.rules.specs.Refusals.{damaged, outOfRange}
+use Rattle.rules.specs.Answers.{refused}
 use Rattle.rules.specs.Status.{resetBy, byStatus}
 use Rattle.rules.specs.declared.Change.{Change}
 use Rattle.rules.specs.declared.Change.the-variants.{Keep, Put, Raise}
@@ -36,17 +37,17 @@ abbrev pub place : Unit → Cycle → ℕ
 place u c = placeOf (u .registers) c % 64
 
 -- flags set in a descriptor
-abbrev pub marked : (mask : ℕ) → Descriptor → Descriptor
-marked mask d = record { base = d .base; limit = d .limit; attributes = with (d .attributes) mask }
+abbrev pub withFlags : (mask : ℕ) → Descriptor → Descriptor
+withFlags mask d = record { base = d .base; limit = d .limit; attributes = with (d .attributes) mask }
 
 -- the table after a change at a place: one descriptor put there, or "set all CPUI, set all DMAI"
 unfoldable pub changed : Change → (place : ℕ) → List Descriptor → List Descriptor
 changed Keep i t = t
 changed (Put d) i t = set t i d
-changed (Raise mask) i t = map (marked mask) t
+changed (Raise mask) i t = map (withFlags mask) t
 
 unfoldable pub decision : Unit → Cycle → Decision
-decision u c = decided (u .registers) (getD (u .table) (place u c) none) c
+decision u c = decided (u .registers) (getD (u .table) (place u c) blank) c
 
 -- the unit after a cycle
 unfoldable pub after : Unit → Cycle → Unit

@@ -3,9 +3,9 @@ use mathlib.Core.Bool.{Bool, true, false, Bool·beq}
 use Prim.Native.Nat.{ℕ, _+_, _*_, _%_}
 use Rattle.rules.specs.Flags.{has, lacks}
 use Rattle.rules.specs.Masks.{NMS, MST, URS, TRNS, MSEN, UPPER}
-use Rattle.rules.specs.Refusals.{off}
+use Rattle.rules.specs.Answers.{off}
 use Rattle.rules.specs.declared.Cycle.{Cycle}
-use Rattle.rules.specs.declared.Lines.{Lines}
+use Rattle.rules.specs.declared.Address.{Address}
 use Rattle.rules.specs.declared.Way.{Way}
 use Rattle.rules.specs.declared.Way.the-variants.{Silent, Passed, Translated}
 
@@ -30,7 +30,7 @@ blockOf base offset = (base + offset) % 65536
 
 -- "TRNS clear: address lines A23 to A8 are segment x 256 + offset byte, unchecked"; "Translated: base + offset byte, [..] driven in
 -- a violation as well"
-unfoldable pub linesOf : Way → (base : ℕ) → Cycle → Lines
-linesOf Silent base c = off
-linesOf Passed base c = record { driven = true; block = c .segment * 256 + c .offset }
-linesOf Translated base c = record { driven = true; block = blockOf base (c .offset) }
+unfoldable pub addressOf : Way → (base : ℕ) → Cycle → Address
+addressOf Silent base c = off
+addressOf Passed base c = record { driven = true; block = c .segment * 256 + c .offset }
+addressOf Translated base c = record { driven = true; block = blockOf base (c .offset) }

@@ -77,8 +77,8 @@ pub enum Kind {
     Refused(u8),
 }
 
-// Address lines A23 to A8. Lines that are not driven have the value 0.
-pub struct Lines {
+// The address, on lines A23 to A8: the number of a block. One that is not driven has the value 0.
+pub struct Address {
     pub driven: bool,
     pub block: u16,
 }
@@ -86,7 +86,7 @@ pub struct Lines {
 // What the unit drives. A data byte that is not driven has the value 0.
 pub struct Answer {
     pub kind: Kind,
-    pub lines: Lines,
+    pub address: Address,
     pub sup: bool,
     pub trap: bool,
     pub drives: bool,

@@ -1,30 +1,51 @@
-// Answers: those that drive nothing, and the kind of an answer as a letter and a number.
+// Answers: they are made here and nowhere else. And the kind of an answer as a letter and a number.
 ghost use mathlib.Core.Path.{_≡_};
+ghost use Rattle.rules.specs.Answers.{seen, spoken, plain, refused};
 ghost use Rattle.rules.specs.Kinds.{letterOf, numberOf};
-ghost use Rattle.rules.specs.Refusals.{plain, refused};
+use rules::Address;
 use rules::Answer;
 use rules::Change;
 use rules::Decision;
 use rules::Kind;
-use rules::Lines;
 use rules::Registers;
+
+// What a memory cycle answers: no data byte.
+pub fn seen(kind: Kind, l: Address, sup: bool, trap: bool) -> Answer
+    ensures { λ a. ⌜ a ≡ seen kind l sup trap ⌝ }
+{
+    Answer {
+        kind,
+        address: l,
+        sup,
+        trap,
+        drives: false,
+        byte: 0,
+    }
+}
+
+// What any other cycle answers: no address, and SUP off.
+pub fn spoken(kind: Kind, trap: bool, drives: bool, byte: u8) -> Answer
+    ensures { λ a. ⌜ a ≡ spoken kind trap drives byte ⌝ }
+{
+    Answer {
+        kind,
+        address: Address {
+            driven: false,
+            block: 0,
+        },
+        sup: false,
+        trap,
+        drives,
+        byte,
+    }
+}
 
 // Nothing driven, SUP off, and the trap line as the request stands.
 pub fn plain(kind: Kind, r: Registers, h: Change) -> Decision
     ensures { λ p. ⌜ p ≡ plain kind r h ⌝ }
 {
     Decision {
-        answer: Answer {
-            kind,
-            lines: Lines {
-                driven: false,
-                block: 0,
-            },
-            sup: false,
-            trap: r.notes.request,
-            drives: false,
-            byte: 0,
-        },
+        answer: spoken(kind, r.notes.request, false, 0),
         registers: r,
         change: h,
     }

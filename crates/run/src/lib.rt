@@ -55,7 +55,7 @@ fn run_to(trace: &[u8], count: usize, out: &mut [u8])
                 table[i] = e;
             }
             Change::Raise(mask) => {
-                table = table::mark_all(table, mask);
+                table = table::with_flags_in_all(table, mask);
             }
         }
     }

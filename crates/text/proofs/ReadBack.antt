@@ -48,7 +48,7 @@ flags-back false false false false = (refl, refl, refl, refl)
 line-back : (n : ℕ) (a : Answer) → lineOf n (packed a) ≡ line n a
 unfolding lineOf line packed flagsOf flags
 line-back n a =
-    let f = flags-back (a .lines .driven) (a .sup) (a .trap) (a .drives) in
+    let f = flags-back (a .address .driven) (a .sup) (a .trap) (a .drives) in
     simp (f .0, f .1, f .2, f .3)
 
 pub lines-back : (n : ℕ) (xs : List Answer) (rest : List ℕ) → linesOf n (length xs) (bytesOf xs ++ rest) ≡ lines n xs

@@ -5,16 +5,17 @@ use mathlib.Core.List.{List, [], _∷_}
 use Prim.Native.Nat.{ℕ}
 use Rattle.rules.specs.Checks.{rightsOf, outOfLength, warns}
 use Rattle.rules.specs.Codes.{commandOf}
-use Rattle.rules.specs.Commands.{given, controlled, programmed, entry, cleared, restarted, acted, executed, commanded}
+use Rattle.rules.specs.Commands.{replied, programmed, entry, restarted, acted, executed, commanded}
 use Rattle.rules.specs.Entry.{byteOf, replaced, indexOf, nextCounter, nextSegment, moved, writtenBy}
-use Rattle.rules.specs.Memory.{seen, resumed, aborted, begun, untranslated, touched, touchedBy, noted, checked}
+use Rattle.rules.specs.Memory.{resumed, aborted, begun, untranslated, touched, touchedBy, noted, checked}
+use Rattle.rules.specs.Answers.{seen, plain, refused}
 use Rattle.rules.specs.Memory.{accessed, memory}
 use Rattle.rules.specs.Recording.{eventOf, busStatus, firstEntry, added, raised, recorded}
-use Rattle.rules.specs.Refusals.{damaged, outOfRange, plain, refused}
+use Rattle.rules.specs.Refusals.{damaged, outOfRange}
 use Rattle.rules.specs.Runs.{answers, final}
 use Rattle.rules.specs.Status.{resetBy, acknowledgeByte, quieted, acknowledged, ignored, purposeOf, byStatus}
 use Rattle.rules.specs.Step.{decided, placeOf, changed, decision, after}
-use Rattle.rules.specs.Translation.{wayOf, blockOf, linesOf}
+use Rattle.rules.specs.Translation.{wayOf, blockOf, addressOf}
 use Rattle.trace_header.specs.Header.{marked, pair, refusalOf}
 use Rattle.text.specs.Fields.{kindText, opening, addressText, byteText, signals, headText, refusalText}
 use Rattle.text.specs.Text.{line, printed}
@@ -51,5 +52,5 @@ output =
     ∷ []
 
 pub sample : printed input ≡ output
-unfolding input output rightsOf outOfLength warns commandOf given controlled programmed entry cleared restarted acted executed commanded byteOf replaced indexOf nextCounter nextSegment moved writtenBy seen resumed aborted begun untranslated touched touchedBy noted checked accessed memory eventOf busStatus firstEntry added raised recorded damaged outOfRange plain refused answers final resetBy acknowledgeByte quieted acknowledged ignored purposeOf byStatus decided placeOf changed decision after wayOf blockOf linesOf marked pair refusalOf kindText opening addressText byteText signals headText refusalText line printed decimal digit givenOf recordRefusalOf partOf cycleOf cyclesTo
+unfolding input output rightsOf outOfLength warns commandOf replied programmed entry restarted acted executed commanded byteOf replaced indexOf nextCounter nextSegment moved writtenBy seen resumed aborted begun untranslated touched touchedBy noted checked accessed memory eventOf busStatus firstEntry added raised recorded damaged outOfRange plain refused answers final resetBy acknowledgeByte quieted acknowledged ignored purposeOf byStatus decided placeOf changed decision after wayOf blockOf addressOf marked pair refusalOf kindText opening addressText byteText signals headText refusalText line printed decimal digit givenOf recordRefusalOf partOf cycleOf cyclesTo
 sample = refl

@@ -16,7 +16,7 @@ use Rattle.trace_records.specs.Trace.{cyclesOf}
 unfoldable pub line : ℕ → Answer → List ℕ
 line n a =
     opening n (letterOf (a .kind)) (numberOf (a .kind))
-    ++ (addressText (a .lines .driven) (a .lines .block / 256) (a .lines .block % 256)
+    ++ (addressText (a .address .driven) (a .address .block / 256) (a .address .block % 256)
     ++ (space ∷ signals (a .sup) (a .trap) (a .drives) (a .byte)))
 
 -- the lines of answers, numbered from n

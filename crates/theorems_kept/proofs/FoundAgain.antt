@@ -9,7 +9,7 @@ use native.Mathlib.Omega.{arith}
 use lib.Dec.{ltb}
 use lib.ListN.{length, getD, take, drop}
 use lib.Seq.{sets, sets-eq, take-suc, take-all, getD-append-add}
-use Rattle.rules.specs.PowerOn.{none}
+use Rattle.rules.specs.PowerOn.{blank}
 use Rattle.rules.specs.declared.Descriptor.{Descriptor}
 use Rattle.rules.specs.declared.Notes.{Notes}
 use Rattle.rules.specs.declared.Registers.{Registers}
@@ -52,7 +52,7 @@ past : (xs rest : List ℕ) (k : ℕ) → descriptorIn (xs ++ rest) (length xs +
 unfolding descriptorIn
 past xs rest k = simp (add-assoc, getD-append-add)
 
-one-found : (t : List Descriptor) (rest : List ℕ) (n : ℕ) → n < length t → descriptorIn (tableBytes t ++ rest) (4 * n) ≡ getD t n none
+one-found : (t : List Descriptor) (rest : List ℕ) (n : ℕ) → n < length t → descriptorIn (tableBytes t ++ rest) (4 * n) ≡ getD t n blank
 unfolding tableBytes descriptorBytes descriptorIn
 one-found [] rest n h = absurd (not-suc-le-zero h)
 one-found (d ∷ t) rest zero h =
@@ -70,7 +70,7 @@ module _ (r : Registers) (t : List Descriptor) (rest : List ℕ) where
   table-found (suc n) h =
       ap (λ (s : List Descriptor). s ++ (descriptorIn (registerBytes r ++ tableBytes t ++ rest) (10 + 4 * n) ∷ [])) (table-found n (omega arith))
       ∙ ap (λ (d : Descriptor). take n t ++ (d ∷ [])) (past (registerBytes r) (tableBytes t ++ rest) (4 * n) ∙ one-found t rest n h)
-      ∙ sym (take-suc t n none h)
+      ∙ sym (take-suc t n blank h)
 
   -- ---- the registers
   registers-found : registersIn (registerBytes r ++ tableBytes t ++ rest) ≡ r

@@ -142,7 +142,7 @@ pub step-by-lending-known : (κs : Lfts 0) (s : Stepped) (e : AtExit (endedOf 0 
       unit = translating (segment 8977 32 129);
       answer = record {
         kind = Translated;
-        lines = record { driven = true; block = 8998 };
+        address = record { driven = true; block = 8998 };
         sup = false;
         trap = false;
         drives = false;

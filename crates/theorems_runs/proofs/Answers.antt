@@ -13,13 +13,14 @@ use Rattle.rules.specs.Checks.{rightsOf, beyond, outOfLength, violates}
 use Rattle.rules.specs.Flags.{has, lacks, with, flagIf}
 use Rattle.rules.specs.Masks.{RD, SYS, CPUI, EXC, DMAI, DIRW, RDV, SYSV, CPUIV, EXCV, DMAIV}
 use Rattle.rules.specs.Masks.{NMS, MST, URS, TRNS, MSEN, UPPER}
-use Rattle.rules.specs.PowerOn.{none as blank}
-use Rattle.rules.specs.Refusals.{damaged, outOfRange, off, plain, refused}
+use Rattle.rules.specs.PowerOn.{blank}
+use Rattle.rules.specs.Refusals.{damaged, outOfRange}
+use Rattle.rules.specs.Answers.{off, plain, refused, seen}
 use Rattle.rules.specs.Status.{resetBy, acknowledged, ignored, purposeOf, byPurpose, byStatus}
-use Rattle.rules.specs.Memory.{seen, begun, checked, accessed, aborted, untranslated, memoryBy, aborts, memory}
-use Rattle.rules.specs.Translation.{wayBy, wayOf, blockOf, linesOf}
+use Rattle.rules.specs.Memory.{begun, checked, accessed, aborted, untranslated, memoryBy, aborts, memory}
+use Rattle.rules.specs.Translation.{wayBy, wayOf, blockOf, addressOf}
 use Rattle.rules.specs.Codes.{commandOf}
-use Rattle.rules.specs.Commands.{given, programmed, entry, acted, executed, commanded}
+use Rattle.rules.specs.Commands.{replied, programmed, entry, acted, executed, commanded}
 use Rattle.rules.specs.Step.{decidedBy, decided, place, decision}
 use Rattle.rules.specs.declared.Action.{Action}
 use Rattle.rules.specs.declared.Action.the-variants.{SoftwareReset, ClearVtr, ClearSww, ClearFatl, SetCpui, SetDmai}
@@ -29,7 +30,7 @@ use Rattle.rules.specs.declared.Cycle.{Cycle}
 use Rattle.rules.specs.declared.Decision.{Decision}
 use Rattle.rules.specs.declared.Descriptor.{Descriptor}
 use Rattle.rules.specs.declared.Kind.{Kind}
-use Rattle.rules.specs.declared.Lines.{Lines}
+use Rattle.rules.specs.declared.Address.{Address}
 use Rattle.rules.specs.declared.Purpose.{Purpose}
 use Rattle.rules.specs.declared.Registers.{Registers}
 use Rattle.rules.specs.declared.Unit.{Unit}
@@ -70,15 +71,15 @@ passing-way mr c =
     go false false true false false = refl
 
 lines-way : (mr base : ℕ) (c : Cycle)
-    → linesOf (wayOf mr c) base c
+    → addressOf (wayOf mr c) base c
     ≡ cond (passingConditions mr || translationConditions mr c)
     (driven (cond (has mr TRNS) ((base + c .offset) % 65536) (c .segment * 256 + c .offset))) off
-unfolding wayOf linesOf blockOf
+unfolding wayOf addressOf blockOf
 lines-way mr base c =
     go (lacks mr MSEN) (lacks mr TRNS) (Bool·beq (has mr URS) (has (c .segment) UPPER)) (lacks mr MST) (Bool·beq (has mr NMS) (c .normal))
   where
     go : (disabled passing half either mode : Bool)
-        → linesOf (wayBy disabled passing half either mode) base c
+        → addressOf (wayBy disabled passing half either mode) base c
         ≡ cond (not disabled && not (not passing) || not disabled && not passing && half && (not (not either) || mode))
         (driven (cond (not passing) ((base + c .offset) % 65536) (c .segment * 256 + c .offset))) off
     go true passing half either mode = refl
@@ -99,55 +100,55 @@ pub data Judged (r : Registers) (x : Decision) : Kind → Type 0 where
   refuses : (n : ℕ) → x ≡ refused n r → Judged r x (kind.Refused n)
   accepts : {k : Kind} → numberIn k ≡ none → Judged r x k
 
-pub record Says (r : Registers) (x : Decision) (k : Kind) (l : Lines) (s : Bool) : Type 0 where
+pub record Says (r : Registers) (x : Decision) (k : Kind) (l : Address) (s : Bool) : Type 0 where
   pub kind : x .answer .kind ≡ k
-  pub lines : x .answer .lines ≡ l
+  pub address : x .answer .address ≡ l
   pub sup : x .answer .sup ≡ s
   pub left : Judged r x k
 
 module _ (r : Registers) (d : Descriptor) (c : Cycle) where
-  memory-says : (b : Bool) (w : Way) (l : Lines)
+  memory-says : (b : Bool) (w : Way) (l : Address)
       → Says r (memoryBy b w r d c l) (kindBy none false false false true b (isTranslated w) (isPassed w)) l
       (not b && (isTranslated w && fails d c || cpu c && (r .notes .hold && not (fetch c))))
   unfolding aborted seen untranslated begun accessed checked
-  memory-says true w l = record { kind = refl; lines = refl; sup = refl; left = accepts refl }
-  memory-says false way.Translated l = record { kind = refl; lines = refl; sup = refl; left = accepts refl }
-  memory-says false way.Passed l = record { kind = refl; lines = refl; sup = refl; left = accepts refl }
-  memory-says false way.Silent l = record { kind = refl; lines = refl; sup = refl; left = accepts refl }
+  memory-says true w l = record { kind = refl; address = refl; sup = refl; left = accepts refl }
+  memory-says false way.Translated l = record { kind = refl; address = refl; sup = refl; left = accepts refl }
+  memory-says false way.Passed l = record { kind = refl; address = refl; sup = refl; left = accepts refl }
+  memory-says false way.Silent l = record { kind = refl; address = refl; sup = refl; left = accepts refl }
 
   acted-says : (a : Action) → Says r (acted r a) kind.Command off false
   unfolding acted plain
-  acted-says SoftwareReset = record { kind = refl; lines = refl; sup = refl; left = accepts refl }
-  acted-says ClearVtr = record { kind = refl; lines = refl; sup = refl; left = accepts refl }
-  acted-says ClearSww = record { kind = refl; lines = refl; sup = refl; left = accepts refl }
-  acted-says ClearFatl = record { kind = refl; lines = refl; sup = refl; left = accepts refl }
-  acted-says SetCpui = record { kind = refl; lines = refl; sup = refl; left = accepts refl }
-  acted-says SetDmai = record { kind = refl; lines = refl; sup = refl; left = accepts refl }
+  acted-says SoftwareReset = record { kind = refl; address = refl; sup = refl; left = accepts refl }
+  acted-says ClearVtr = record { kind = refl; address = refl; sup = refl; left = accepts refl }
+  acted-says ClearSww = record { kind = refl; address = refl; sup = refl; left = accepts refl }
+  acted-says ClearFatl = record { kind = refl; address = refl; sup = refl; left = accepts refl }
+  acted-says SetCpui = record { kind = refl; address = refl; sup = refl; left = accepts refl }
+  acted-says SetDmai = record { kind = refl; address = refl; sup = refl; left = accepts refl }
 
   executed-says : (m : Command) (read b t p : Bool)
       → Says r (executed m read r d c)
       (kindBy (earliest false false (not (isListed m)) (not read && isShow m || read && isAct m)) false false true false b t p) off false
-  unfolding executed programmed given entry refused plain
-  executed-says Mr true b t p = record { kind = refl; lines = refl; sup = refl; left = accepts refl }
-  executed-says Mr false b t p = record { kind = refl; lines = refl; sup = refl; left = accepts refl }
-  executed-says Sar true b t p = record { kind = refl; lines = refl; sup = refl; left = accepts refl }
-  executed-says Sar false b t p = record { kind = refl; lines = refl; sup = refl; left = accepts refl }
-  executed-says Dscr true b t p = record { kind = refl; lines = refl; sup = refl; left = accepts refl }
-  executed-says Dscr false b t p = record { kind = refl; lines = refl; sup = refl; left = accepts refl }
-  executed-says (Show g) true b t p = record { kind = refl; lines = refl; sup = refl; left = accepts refl }
-  executed-says (Show g) false b t p = record { kind = refl; lines = refl; sup = refl; left = refuses 4 refl }
-  executed-says (Entry x) true b t p = record { kind = refl; lines = refl; sup = refl; left = accepts refl }
-  executed-says (Entry x) false b t p = record { kind = refl; lines = refl; sup = refl; left = accepts refl }
-  executed-says (Act a) true b t p = record { kind = refl; lines = refl; sup = refl; left = refuses 4 refl }
+  unfolding executed programmed replied entry refused plain
+  executed-says Mr true b t p = record { kind = refl; address = refl; sup = refl; left = accepts refl }
+  executed-says Mr false b t p = record { kind = refl; address = refl; sup = refl; left = accepts refl }
+  executed-says Sar true b t p = record { kind = refl; address = refl; sup = refl; left = accepts refl }
+  executed-says Sar false b t p = record { kind = refl; address = refl; sup = refl; left = accepts refl }
+  executed-says Dscr true b t p = record { kind = refl; address = refl; sup = refl; left = accepts refl }
+  executed-says Dscr false b t p = record { kind = refl; address = refl; sup = refl; left = accepts refl }
+  executed-says (Show g) true b t p = record { kind = refl; address = refl; sup = refl; left = accepts refl }
+  executed-says (Show g) false b t p = record { kind = refl; address = refl; sup = refl; left = refuses 4 refl }
+  executed-says (Entry x) true b t p = record { kind = refl; address = refl; sup = refl; left = accepts refl }
+  executed-says (Entry x) false b t p = record { kind = refl; address = refl; sup = refl; left = accepts refl }
+  executed-says (Act a) true b t p = record { kind = refl; address = refl; sup = refl; left = refuses 4 refl }
   executed-says (Act a) false b t p = acted-says a
-  executed-says Unlisted read b t p = record { kind = refl; lines = refl; sup = refl; left = refuses 3 refl }
+  executed-says Unlisted read b t p = record { kind = refl; address = refl; sup = refl; left = refuses 3 refl }
 
   -- the way of a memory cycle, its lines and its SUP
   wayHere : Way
   wayHere = wayOf (r .control .mr) c
 
-  linesHere : Lines
-  linesHere = linesOf wayHere (d .base) c
+  linesHere : Address
+  linesHere = addressOf wayHere (d .base) c
 
   pub supHere : Bool
   supHere =
@@ -162,12 +163,12 @@ module _ (r : Registers) (d : Descriptor) (c : Cycle) where
       false (isAcknowledge p && x) (isCommand p && y) (isMemory p) (aborts r c) (isTranslated wayHere) (isPassed wayHere))
       (cond (isMemory p) linesHere off) (isMemory p && supHere)
   unfolding wayHere linesHere supHere acknowledged ignored plain commanded memory
-  purpose-says purpose.Acknowledge true y = record { kind = refl; lines = refl; sup = refl; left = accepts refl }
-  purpose-says purpose.Acknowledge false y = record { kind = refl; lines = refl; sup = refl; left = accepts refl }
+  purpose-says purpose.Acknowledge true y = record { kind = refl; address = refl; sup = refl; left = accepts refl }
+  purpose-says purpose.Acknowledge false y = record { kind = refl; address = refl; sup = refl; left = accepts refl }
   purpose-says purpose.Command x true = executed-says (commandOf (c .offset)) (c .read) _ _ _
-  purpose-says purpose.Command x false = record { kind = refl; lines = refl; sup = refl; left = accepts refl }
+  purpose-says purpose.Command x false = record { kind = refl; address = refl; sup = refl; left = accepts refl }
   purpose-says purpose.Memory x y = memory-says (aborts r c) wayHere linesHere
-  purpose-says purpose.Other x y = record { kind = refl; lines = refl; sup = refl; left = accepts refl }
+  purpose-says purpose.Other x y = record { kind = refl; address = refl; sup = refl; left = accepts refl }
 
   decided-says : (two one reset : Bool)
       → Says r (decidedBy two one reset r d c)
@@ -180,9 +181,9 @@ module _ (r : Registers) (d : Descriptor) (c : Cycle) where
       (cond (not two && not one && (not reset && (leb 8 (c .status) && leb (c .status) 13))) linesHere off)
       (not two && not one && (not reset && (leb 8 (c .status) && leb (c .status) 13)) && supHere)
   unfolding refused resetBy plain byStatus
-  decided-says true one reset = record { kind = refl; lines = refl; sup = refl; left = refuses 2 refl }
-  decided-says false true reset = record { kind = refl; lines = refl; sup = refl; left = refuses 1 refl }
-  decided-says false false true = record { kind = refl; lines = refl; sup = refl; left = accepts refl }
+  decided-says true one reset = record { kind = refl; address = refl; sup = refl; left = refuses 2 refl }
+  decided-says false true reset = record { kind = refl; address = refl; sup = refl; left = refuses 1 refl }
+  decided-says false false true = record { kind = refl; address = refl; sup = refl; left = accepts refl }
   decided-says false false false =
       rw (
         ← command-status (c .status),
@@ -202,7 +203,7 @@ kindSaid u c =
 
 pub says : (u : Unit) (c : Cycle)
     → Says (u .registers) (decision u c) (kindSaid u c)
-    (cond (admitted u c && memoryCycle c) (linesOf (wayOf (u .registers .control .mr) c) (getD (u .table) (place u c) blank .base) c) off)
+    (cond (admitted u c && memoryCycle c) (addressOf (wayOf (u .registers .control .mr) c) (getD (u .table) (place u c) blank .base) c) off)
     (admitted u c && memoryCycle c && supHere (u .registers) (getD (u .table) (place u c) blank) c)
 unfolding decision decided wayHere linesHere
 says u c = decided-says (u .registers) (getD (u .table) (place u c) blank) c (damaged (u .registers)) (outOfRange c) (c .reset)
@@ -257,11 +258,11 @@ memory-place u c e =
     (own-segment (u .registers) c (differs (λ s. leb 8 s && leb s 13) (c .status) 3 (and-r (not (c .reset)) _ e) refl))
 
 -- lines that are the same wherever they are driven
-cond-same : (t : Bool) (l m : Lines) → (t ≡ true → l ≡ m) → cond t l off ≡ cond t m off
+cond-same : (t : Bool) (l m : Address) → (t ≡ true → l ≡ m) → cond t l off ≡ cond t m off
 cond-same true l m h = h refl
 cond-same false l m h = refl
 
-cond-nest : (a b : Bool) (l : Lines) → cond a (cond b l off) off ≡ cond (a && b) l off
+cond-nest : (a b : Bool) (l : Address) → cond a (cond b l off) off ≡ cond (a && b) l off
 cond-nest true b l = refl
 cond-nest false b l = refl
 
@@ -269,10 +270,10 @@ pub address-exactly : AddressExactly
 address-exactly u c =
     let mr : ℕ = u .registers .control .mr in
     let m : Bool = admitted u c && memoryCycle c in
-    says u c .lines
-    ∙ cond-same m _ (linesOf (wayOf mr c) (segmentOf u c .base) c)
-    (λ e. ap (λ (i : ℕ). linesOf (wayOf mr c) (getD (u .table) i blank .base) c) (memory-place u c (and-r (admitted u c) _ e)))
-    ∙ ap (λ (l : Lines). cond m l off) (lines-way mr (segmentOf u c .base) c)
+    says u c .address
+    ∙ cond-same m _ (addressOf (wayOf mr c) (segmentOf u c .base) c)
+    (λ e. ap (λ (i : ℕ). addressOf (wayOf mr c) (getD (u .table) i blank .base) c) (memory-place u c (and-r (admitted u c) _ e)))
+    ∙ ap (λ (l : Address). cond m l off) (lines-way mr (segmentOf u c .base) c)
     ∙ cond-nest m (passingConditions mr || translationConditions mr c) _
 
 -- SUP

@@ -13,16 +13,17 @@ use Rattle.rules.proofs.Blind.{isTranslated}
 use Rattle.rules.specs.Bus.{cpu, write, fetch}
 use Rattle.rules.specs.Flags.{has}
 use Rattle.rules.specs.Masks.{RD, SYS, CPUI, EXC, DMAI, DIRW}
-use Rattle.rules.specs.PowerOn.{none}
-use Rattle.rules.specs.Refusals.{damaged, outOfRange, plain, refused}
+use Rattle.rules.specs.PowerOn.{blank}
+use Rattle.rules.specs.Refusals.{damaged, outOfRange}
+use Rattle.rules.specs.Answers.{plain, refused, seen}
 use Rattle.rules.specs.Runs.{units}
 use Rattle.rules.specs.Status.{resetBy, acknowledged, ignored, purposeOf, byPurpose, byStatus}
-use Rattle.rules.specs.Memory.{seen, begun, touched, touchedBy, suppressed, checked, accessed, aborted, untranslated, memoryBy, aborts, memory}
+use Rattle.rules.specs.Memory.{begun, touched, touchedBy, suppressed, checked, accessed, aborted, untranslated, memoryBy, aborts, memory}
 use Rattle.rules.specs.Translation.{wayOf}
 use Rattle.rules.specs.Codes.{commandOf}
 use Rattle.rules.specs.Entry.{replaced, indexOf, writtenBy}
-use Rattle.rules.specs.Commands.{given, programmed, entry, acted, executed, commanded}
-use Rattle.rules.specs.Step.{decidedBy, decided, placeOf, place, marked, changed, decision, after, stepped}
+use Rattle.rules.specs.Commands.{replied, programmed, entry, acted, executed, commanded}
+use Rattle.rules.specs.Step.{decidedBy, decided, placeOf, place, withFlags, changed, decision, after, stepped}
 use Rattle.rules.specs.declared.Action.{Action}
 use Rattle.rules.specs.declared.Action.the-variants.{SoftwareReset, ClearVtr, ClearSww, ClearFatl, SetCpui, SetDmai}
 use Rattle.rules.specs.declared.Change.{Change}
@@ -31,7 +32,7 @@ use Rattle.rules.specs.declared.Command.{Command}
 use Rattle.rules.specs.declared.Command.the-variants.{Mr, Sar, Dscr, Show, Entry, Act, Unlisted}
 use Rattle.rules.specs.declared.Cycle.{Cycle}
 use Rattle.rules.specs.declared.Descriptor.{Descriptor}
-use Rattle.rules.specs.declared.Lines.{Lines}
+use Rattle.rules.specs.declared.Address.{Address}
 use Rattle.rules.specs.declared.Part.{Part}
 use Rattle.rules.specs.declared.Part.the-variants.{Base, Limit, Attributes, Whole}
 use Rattle.rules.specs.declared.Purpose.{Purpose}
@@ -81,7 +82,7 @@ module _ (r : Registers) (d : Descriptor) (c : Cycle) where
   idle k false true = keeps
   idle k false false = keeps
 
-  memory-alters : (k : ℕ) (b : Bool) (w : Way) (l : Lines)
+  memory-alters : (k : ℕ) (b : Bool) (w : Way) (l : Address)
       → Alters c d k false false false (not b && isTranslated w && not (memoryBy b w r d c l .answer .sup)) (memoryBy b w r d c l .change)
   unfolding aborted seen untranslated accessed checked touchedBy
   memory-alters k true w l = keeps
@@ -111,7 +112,7 @@ module _ (r : Registers) (d : Descriptor) (c : Cycle) where
   executed-alters : (x : Command) (read : Bool)
       → Alters c d (byteOfCommand x) (write c && isEntry x) (not read && isActOf 0x15 x) (not read && isActOf 0x16 x) false
       (executed x read r d c .change)
-  unfolding byteOfCommand executed programmed given refused plain entry writtenBy
+  unfolding byteOfCommand executed programmed replied refused plain entry writtenBy
   executed-alters Mr read = idle _ (write c) (not read)
   executed-alters Sar read = idle _ (write c) (not read)
   executed-alters Dscr read = idle _ (write c) (not read)
@@ -224,14 +225,14 @@ command-place u c e =
     rw three (omega arith)
 
 change-stays : {e p m lets : Bool} {h : Change} (c : Cycle) (k : ℕ) (t : List Descriptor) (j i : ℕ)
-    → Alters c (getD t j none) k e p m lets h → (e ≡ true → i ≡ j → ⊥) → p ≡ false → m ≡ false
-    → SameRules (getD t i none) (getD (changed h j t) i none)
+    → Alters c (getD t j blank) k e p m lets h → (e ≡ true → i ≡ j → ⊥) → p ≡ false → m ≡ false
+    → SameRules (getD t i blank) (getD (changed h j t) i blank)
 unfolding changed
 change-stays c k t j i keeps n f g = same-refl _
 change-stays c k t j i touches n f g =
-    set-at (SameRules (getD t i none)) t j i (touched (getD t j none) c) none (same-refl _) λ q. rw q (touched-same c _)
+    set-at (SameRules (getD t i blank)) t j i (touched (getD t j blank) c) blank (same-refl _) λ q. rw q (touched-same c _)
 change-stays c k t j i puts n f g =
-    set-at (SameRules (getD t i none)) t j i (replaced (getD t j none) k (c .byte)) none (same-refl _) λ q. absurd (n refl q)
+    set-at (SameRules (getD t i blank)) t j i (replaced (getD t j blank) k (c .byte)) blank (same-refl _) λ q. absurd (n refl q)
 change-stays c k t j i cpuis n f g = absurd (true≢false f)
 change-stays c k t j i dmais n f g = absurd (true≢false g)
 
@@ -266,11 +267,11 @@ descriptors-stay-throughout u cs i q = go (descriptor u i) cs u (same-refl _) q
 -- What changes one
 
 change-puts : {e p m lets : Bool} {h : Change} (c : Cycle) (k : ℕ) (t : List Descriptor) (j : ℕ)
-    → Alters c (getD t j none) k e p m lets h → e ≡ true → j < length t → getD (changed h j t) j none ≡ replaced (getD t j none) k (c .byte)
+    → Alters c (getD t j blank) k e p m lets h → e ≡ true → j < length t → getD (changed h j t) j blank ≡ replaced (getD t j blank) k (c .byte)
 unfolding changed
 change-puts c k t j keeps q s = absurd (false≢true q)
 change-puts c k t j touches q s = absurd (false≢true q)
-change-puts c k t j puts q s = getD-set-same t j _ none s
+change-puts c k t j puts q s = getD-set-same t j _ blank s
 change-puts c k t j cpuis q s = absurd (false≢true q)
 change-puts c k t j dmais q s = absurd (false≢true q)
 
@@ -284,15 +285,15 @@ write-replaces u c i s w =
     (change-puts c (byteIn u c) (u .table) (place u c) (alters u c) e) s
 
 change-raises : {e p m lets : Bool} {h : Change} (c : Cycle) (k : ℕ) (t : List Descriptor) (j i : ℕ)
-    → Alters c (getD t j none) k e p m lets h → i < length t
-    → (p ≡ true → getD (changed h j t) i none ≡ marked CPUI (getD t i none))
-    × (m ≡ true → getD (changed h j t) i none ≡ marked DMAI (getD t i none))
+    → Alters c (getD t j blank) k e p m lets h → i < length t
+    → (p ≡ true → getD (changed h j t) i blank ≡ withFlags CPUI (getD t i blank))
+    × (m ≡ true → getD (changed h j t) i blank ≡ withFlags DMAI (getD t i blank))
 unfolding changed
 change-raises c k t j i keeps s = (λ q. absurd (false≢true q), λ q. absurd (false≢true q))
 change-raises c k t j i touches s = (λ q. absurd (false≢true q), λ q. absurd (false≢true q))
 change-raises c k t j i puts s = (λ q. absurd (false≢true q), λ q. absurd (false≢true q))
-change-raises c k t j i cpuis s = (λ q. at-map (marked CPUI) t i none s, λ q. absurd (false≢true q))
-change-raises c k t j i dmais s = (λ q. absurd (false≢true q), λ q. at-map (marked DMAI) t i none s)
+change-raises c k t j i cpuis s = (λ q. at-map (withFlags CPUI) t i blank s, λ q. absurd (false≢true q))
+change-raises c k t j i dmais s = (λ q. absurd (false≢true q), λ q. at-map (withFlags DMAI) t i blank s)
 
 pub set-all-sets : SetAllSets
 unfolding after
@@ -301,17 +302,17 @@ set-all-sets u c i s = change-raises c (byteIn u c) (u .table) (place u c) i (al
 -- Memory cycles
 
 change-marks : {e p m lets : Bool} {h : Change} (c : Cycle) (k : ℕ) (t : List Descriptor) (j i : ℕ)
-    → Alters c (getD t j none) k e p m lets h → (e ≡ true → i ≡ j → ⊥) → p ≡ false → m ≡ false → i < length t
-    → getD (changed h j t) i none ≡ cond (lets && eqb i j) (touched (getD t i none) c) (getD t i none)
+    → Alters c (getD t j blank) k e p m lets h → (e ≡ true → i ≡ j → ⊥) → p ≡ false → m ≡ false → i < length t
+    → getD (changed h j t) i blank ≡ cond (lets && eqb i j) (touched (getD t i blank) c) (getD t i blank)
 unfolding changed
 change-marks c k t j i keeps x y z s = refl
 change-marks c k t j i touches x y z s = go (eqb i j) refl
   where
     go : (b : Bool) → eqb i j ≡ b
-        → getD (set t j (touched (getD t j none) c)) i none ≡ cond b (touched (getD t i none) c) (getD t i none)
-    go true q = rw (eqb-true i j q) (getD-set-same t j (touched (getD t j none) c) none (rw (eqb-true i j q) at s))
-    go false q = getD-set-other t j i (touched (getD t j none) c) none (eqb-false i j q)
-change-marks c k t j i puts x y z s = getD-set-other t j i (replaced (getD t j none) k (c .byte)) none (x refl)
+        → getD (set t j (touched (getD t j blank) c)) i blank ≡ cond b (touched (getD t i blank) c) (getD t i blank)
+    go true q = rw (eqb-true i j q) (getD-set-same t j (touched (getD t j blank) c) blank (rw (eqb-true i j q) at s))
+    go false q = getD-set-other t j i (touched (getD t j blank) c) blank (eqb-false i j q)
+change-marks c k t j i puts x y z s = getD-set-other t j i (replaced (getD t j blank) k (c .byte)) blank (x refl)
 change-marks c k t j i cpuis x y z s = absurd (true≢false y)
 change-marks c k t j i dmais x y z s = absurd (true≢false z)
 

@@ -5,22 +5,23 @@ use mathlib.Core.Bool.{Bool, true, false, cond, not, _&&_, _||_, and-false, and-
 use Prim.Native.Nat.{ℕ, _+_, _*_, _%_}
 use lib.Dec.{eqb}
 use Rattle.rules.specs.Bus.{cpu, fetch}
-use Rattle.rules.specs.Checks.{rightsOf, outOfLength, warns}
+use Rattle.rules.specs.Checks.{found}
 use Rattle.rules.specs.Flags.{has}
 use Rattle.rules.specs.Masks.{RD, TRNS}
-use Rattle.rules.specs.PowerOn.{none, powerOn}
-use Rattle.rules.specs.Refusals.{damaged, outOfRange, off, plain, refused}
-use Rattle.rules.specs.Seen.{segment, faults, notes, noNote, cycle, command, unitOf, unitWith, acknowledge as acknowledges}
+use Rattle.rules.specs.PowerOn.{faultsOf, notesOf, blank, powerOn}
+use Rattle.rules.specs.Refusals.{damaged, outOfRange}
+use Rattle.rules.specs.Answers.{off, plain, refused, seen}
+use Rattle.rules.specs.Seen.{segment, noNote, cycle, command, unitHolding, unitWith, acknowledge as acknowledges}
 use Rattle.rules.specs.Status.{resetBy, ignored, purposeOf, byPurpose, byStatus}
 use Rattle.rules.specs.Recording.{eventOf, recorded}
-use Rattle.rules.specs.Memory.{seen, begun, noted, checked, accessed, aborted, untranslated, memoryBy, aborts, memory}
+use Rattle.rules.specs.Memory.{begun, noted, checked, accessed, aborted, untranslated, memoryBy, aborts, memory}
 use Rattle.rules.specs.Translation.{wayOf}
 use Rattle.rules.specs.Step.{decidedBy, decided, decision, after, stepped}
 use Rattle.rules.specs.declared.Cycle.{Cycle}
 use Rattle.rules.specs.declared.Decision.{Decision}
 use Rattle.rules.specs.declared.Descriptor.{Descriptor}
 use Rattle.rules.specs.declared.Kind.{Kind}
-use Rattle.rules.specs.declared.Lines.{Lines}
+use Rattle.rules.specs.declared.Address.{Address}
 use Rattle.rules.specs.declared.Purpose.{Purpose}
 use Rattle.rules.specs.declared.Registers.{Registers}
 use Rattle.rules.specs.declared.Unit.{Unit}
@@ -57,23 +58,21 @@ module _ (c : Cycle) (d : Descriptor) (dma : c .dma ≡ true) where
   no-fetch : fetch c ≡ false
   no-fetch = ap (λ (t : Bool). not t && c .read && eqb (c .status) 13) dma
 
-  accessed-idle : (s : Bool) (r : Registers) (l : Lines) → Idle s r (accessed r d c l)
+  accessed-idle : (s : Bool) (r : Registers) (l : Address) → Idle s r (accessed r d c l)
   unfolding accessed checked seen recorded eventOf
   accessed-idle s r l =
-      let rights : ℕ = rightsOf (d .attributes) c in
-      let long : Bool = outOfLength d c in
       let v : Bool = fails d c in
       let stores : Bool → Bool = λ f. f && not v && eqb (r .faults .vtr) 0 in
       record {
         registers = λ e.
-            ap (λ (t : Bool). noted (recorded r c (eventOf t v (warns d c v) rights long)) (stores (fetch c)) (v && not t) c) dma
+            ap (λ (t : Bool). noted (recorded r c (eventOf t (found d c))) (stores (fetch c)) (v && not t) c) dma
             ∙ ap (λ (t : Bool). noted r (stores t) (v && false) c) no-fetch
             ∙ noted-idle r c v;
         drives = refl;
         byte = refl;
       }
 
-  memory-idle : (s : Bool) (r : Registers) (b : Bool) (w : Way) (l : Lines) → b ≡ false → Idle s r (memoryBy b w r d c l)
+  memory-idle : (s : Bool) (r : Registers) (b : Bool) (w : Way) (l : Address) → b ≡ false → Idle s r (memoryBy b w r d c l)
   unfolding aborted seen untranslated
   memory-idle s r true w l e = record { registers = absurd (true≢false e); drives = refl; byte = refl }
   memory-idle s r false way.Translated l e =
@@ -138,7 +137,7 @@ module _ (c : Cycle) where
       kindBy (earliest two (outOfRange c) (unlisted c) (wrongWay c)) (c .reset) (acknowledge c) (selectedCommand c) (memoryCycle c) waits
       (translationConditions mr c) (passingConditions mr)
 
-  linesFrom : (two : Bool) → (mr : ℕ) → Descriptor → Lines
+  linesFrom : (two : Bool) → (mr : ℕ) → Descriptor → Address
   linesFrom two mr d =
       cond (not two && not (outOfRange c) && memoryCycle c && (passingConditions mr || translationConditions mr c))
       (driven (cond (has mr TRNS) ((d .base + c .offset) % 65536) (c .segment * 256 + c .offset))) off
@@ -159,7 +158,7 @@ module _ (a b : Unit) (c : Cycle) (two : damaged (a .registers) ≡ damaged (b .
       go : {t t' w w' : Bool} {m m' : ℕ} → t ≡ t' → w ≡ w' → m ≡ m' → kindFrom c t w m ≡ kindFrom c t' w' m'
       go p q s = rw (p, q, s)
 
-  same-lines : stepped a c .answer .lines ≡ stepped b c .answer .lines
+  same-lines : stepped a c .answer .address ≡ stepped b c .answer .address
   unfolding linesFrom
   same-lines = address-exactly a c ∙ go two mr d ∙ sym (address-exactly b c)
     where
@@ -179,7 +178,7 @@ dma-answers a b c h =
     let two : damaged (a .registers) ≡ damaged (b .registers) = h .0 ∙ sym (h .1) in
     record {
       kind = same-kind a b c two (h .2) (h .3) (h .4);
-      lines = same-lines a b c two (h .2) (h .3) (h .4);
+      address = same-lines a b c two (h .2) (h .3) (h .4);
       sup = same-sup a b c two (h .2) (h .3) (h .4);
       drives = idle a c (h .2) .drives ∙ sym (idle b c (h .2) .drives);
       byte = idle a c (h .2) .byte ∙ sym (idle b c (h .2) .byte);
@@ -205,8 +204,8 @@ dmaWrite reset = record {
 pub dma-leaves-needs : DmaLeavesNeeds
 unfolding dmaWrite computed
 dma-leaves-needs = (
-  λ claim. true≢false (ap (λ (r : Registers). eqb (r .control .mr) 0) (claim (unitWith 0xC0 0 none) (dmaWrite true) refl)),
-  λ claim. true≢false (ap (λ (r : Registers). eqb (r .control .mr) 0) (claim (unitWith 0xC0 0 none) (command false 0x00 0) refl)),
+  λ claim. true≢false (ap (λ (r : Registers). eqb (r .control .mr) 0) (claim (unitWith 0xC0 0 blank) (dmaWrite true) refl)),
+  λ claim. true≢false (ap (λ (r : Registers). eqb (r .control .mr) 0) (claim (unitWith 0xC0 0 blank) (command false 0x00 0) refl)),
 )
 
 pub dma-trap-needs : DmaTrapNeeds
@@ -219,13 +218,13 @@ dma-marks-needs claim = true≢false (ap (λ (d : Descriptor). eqb (d .attribute
 
 -- SAR 64 refuses it, hold in one unit suppresses a CPU cycle there, MR %80 drives an address, and RD in one unit makes it a violation
 whole : Unit
-whole = unitWith 0x80 0 none
+whole = unitWith 0x80 0 blank
 
 held : Unit
-held = unitOf 0 0 0 (faults 0 0 0 0) 0 0 (notes false false false true) 0 none
+held = unitHolding 0 0 0 (faultsOf 0 0 0 0) 0 0 (notesOf false false false true) 0 blank
 
 broken : Unit
-broken = unitOf 0x80 64 0 (faults 0 0 0 0) 0 0 noNote 0 none
+broken = unitHolding 0x80 64 0 (faultsOf 0 0 0 0) 0 0 noNote 0 blank
 
 withFlags : (attributes : ℕ) → Unit
 withFlags a = unitWith 0xC0 0 (segment 0 0xFF a)
@@ -233,9 +232,9 @@ withFlags a = unitWith 0xC0 0 (segment 0 0xFF a)
 pub dma-answers-need : DmaAnswersNeed
 unfolding dmaWrite whole held broken withFlags computed
 dma-answers-need = (
-  λ claim. false≢true (ap (λ (l : Lines). l .driven) (claim broken whole (dmaWrite false) (refl, refl, refl, refl) .lines)),
-  λ claim. true≢false (ap (λ (l : Lines). l .driven) (claim whole broken (dmaWrite false) (refl, refl, refl, refl) .lines)),
+  λ claim. false≢true (ap (λ (l : Address). l .driven) (claim broken whole (dmaWrite false) (refl, refl, refl, refl) .address)),
+  λ claim. true≢false (ap (λ (l : Address). l .driven) (claim whole broken (dmaWrite false) (refl, refl, refl, refl) .address)),
   λ claim. true≢false (claim held powerOn (cycle false false false 8 0 0) (refl, refl, refl, refl) .sup),
-  λ claim. true≢false (ap (λ (l : Lines). l .driven) (claim whole powerOn (dmaWrite false) (refl, refl, refl, refl) .lines)),
+  λ claim. true≢false (ap (λ (l : Address). l .driven) (claim whole powerOn (dmaWrite false) (refl, refl, refl, refl) .address)),
   λ claim. true≢false (claim (withFlags RD) (withFlags 0) (dmaWrite false) (refl, refl, refl, refl) .sup),
 )

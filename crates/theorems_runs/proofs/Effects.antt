@@ -11,11 +11,12 @@ use lib.ListN.{length, getD}
 use borrow.Author.Tests.{eqb-true}
 use Rattle.rules.specs.Flags.{without}
 use Rattle.rules.specs.Masks.{CPUI, DMAI, SWW, FATL}
-use Rattle.rules.specs.PowerOn.{none}
-use Rattle.rules.specs.Refusals.{off, plain, refused}
+use Rattle.rules.specs.PowerOn.{blank}
+use Rattle.rules.specs.Answers.{off, plain, refused}
 use Rattle.rules.specs.Entry.{replaced, indexOf, nextCounter, moved, writtenBy}
-use Rattle.rules.specs.Commands.{given, controlled, programmed, entry, cleared, restarted, acted, executed}
-use Rattle.rules.specs.Step.{marked, changed}
+use Rattle.rules.specs.Commands.{replied, programmed, entry, restarted, acted, executed}
+use Rattle.rules.specs.Registers.{withVtr}
+use Rattle.rules.specs.Step.{withFlags, changed}
 use Rattle.rules.specs.declared.Action.{Action}
 use Rattle.rules.specs.declared.Action.the-variants.{SoftwareReset, ClearVtr, ClearSww, ClearFatl, SetCpui, SetDmai}
 use Rattle.rules.specs.declared.Answer.{Answer}
@@ -33,7 +34,7 @@ use Rattle.rules.specs.declared.Kind.the-variants as kind
 
 -- what is decided in a command that writes
 abbrev decides : Command → Unit → Cycle → Decision
-decides m u c = executed m false (u .registers) (getD (u .table) (u .registers .control .sar % 64) none) c
+decides m u c = executed m false (u .registers) (getD (u .table) (u .registers .control .sar % 64) blank) c
 
 -- and what it does
 abbrev pub done : Command → Unit → Cycle → Stepped
@@ -63,13 +64,13 @@ effect SetCpui = raises CPUI
 effect SetDmai = raises DMAI
 
 unfoldable pub does : Effect → Unit → Unit
-does (clears m) u = record { table = u .table; registers = cleared (u .registers) (without (u .registers .faults .vtr) m) }
-does (raises m) u = record { table = map (marked m) (u .table); registers = u .registers }
+does (clears m) u = record { table = u .table; registers = withVtr (u .registers) (without (u .registers .faults .vtr) m) }
+does (raises m) u = record { table = map (withFlags m) (u .table); registers = u .registers }
 does resets u = record { table = u .table; registers = restarted (u .registers) 0 }
 
 -- what it answers: nothing is driven, and the trap line is as the request stands after it
 abbrev pub said : (request : Bool) → Answer
-said request = record { kind = kind.Command; lines = off; sup = false; trap = request; drives = false; byte = 0 }
+said request = record { kind = kind.Command; address = off; sup = false; trap = request; drives = false; byte = 0 }
 
 abbrev pub request : Unit → Bool
 request u = u .registers .notes .request
@@ -78,7 +79,7 @@ abbrev pub acted-on : Effect → Unit → Stepped
 acted-on e u = record { unit = does e u; answer = said (request (does e u)) }
 
 pub act-done : (a : Action) (u : Unit) (c : Cycle) → done (Act a) u c ≡ acted-on (effect a) u
-unfolding does executed acted plain cleared restarted changed
+unfolding does executed acted plain restarted changed
 act-done SoftwareReset u c = refl
 act-done ClearVtr u c = rw (and-zero-r (u .registers .faults .vtr))
 act-done ClearSww u c = refl
@@ -88,16 +89,16 @@ act-done SetDmai u c = refl
 
 -- any two of them, in either order
 pub either : (e f : Effect) (u : Unit) → does f (does e u) ≡ does e (does f u)
-unfolding does cleared restarted
+unfolding does restarted
 either (clears m) (clears n) u = rw (without-either (u .registers .faults .vtr) m n)
 either (clears m) (raises n) u = refl
 either (clears m) resets u = refl
 either (raises m) (clears n) u = refl
 either (raises m) (raises n) u =
-    let both : Descriptor → Descriptor = λ d. marked m (marked n d) in
+    let both : Descriptor → Descriptor = λ d. withFlags m (withFlags n d) in
     rw (
-      map-map (marked m) (marked n) both (λ d. rw (with-either (d .attributes) m n)) (u .table),
-      map-map (marked n) (marked m) both (λ d. refl) (u .table),
+      map-map (withFlags m) (withFlags n) both (λ d. rw (with-either (d .attributes) m n)) (u .table),
+      map-map (withFlags n) (withFlags m) both (λ d. refl) (u .table),
     )
 either (raises m) resets u = refl
 either resets (clears n) u = refl
@@ -117,13 +118,13 @@ within resets (raises m) = false
 within resets resets = true
 
 pub idle : (e f : Effect) (u : Unit) → within f e ≡ true → does f (does e u) ≡ does e u
-unfolding does cleared restarted
+unfolding does restarted
 idle (clears m) (clears n) u t = rw (without-part (u .registers .faults .vtr) m n (eqb-true _ _ t))
 idle (clears m) (raises n) u t = absurd (false≢true t)
 idle (clears m) resets u t = absurd (false≢true t)
 idle (raises m) (clears n) u t = absurd (false≢true t)
 idle (raises m) (raises n) u t =
-    rw (eqb-true n m t, map-map (marked m) (marked m) (marked m) (λ d. rw (with-twice (d .attributes) m)) (u .table))
+    rw (eqb-true n m t, map-map (withFlags m) (withFlags m) (withFlags m) (λ d. rw (with-twice (d .attributes) m)) (u .table))
 idle (raises m) resets u t = absurd (false≢true t)
 idle resets (clears n) u t = refl
 idle resets (raises n) u t = absurd (false≢true t)
@@ -162,7 +163,7 @@ no-clash resets a = refl
 
 pub passes : (e : Effect) (k : Command) (u : Unit) (c : Cycle) → length (u .table) ≡ 64 → c .read ≡ false → clash e k ≡ false
     → done k (does e u) c .unit ≡ does e (done k u c .unit)
-unfolding does executed programmed given controlled entry cleared restarted refused plain changed writtenBy moved indexOf nextCounter replaced
+unfolding does executed programmed replied entry restarted refused plain changed writtenBy moved indexOf nextCounter replaced
 passes e (Act a) u c h w t =
     ap left (act-done a (does e u) c) ∙ either e (effect a) u ∙ sym (ap (λ (s : Stepped). does e (left s)) (act-done a u c))
 passes (clears m) Mr u c h w t = refl
@@ -179,8 +180,8 @@ passes (raises m) (Entry Limit) u c h w t =
     let i : ℕ = u .registers .control .sar % 64 in
     rw (
       w,
-      at-map (marked m) (u .table) i none (omega (arith, h)),
-      map-set (marked m) (u .table) i (replaced (getD (u .table) i none) 2 (c .byte)),
+      at-map (withFlags m) (u .table) i blank (omega (arith, h)),
+      map-set (withFlags m) (u .table) i (replaced (getD (u .table) i blank) 2 (c .byte)),
     )
 passes (raises m) (Entry Base) u c h w t = absurd (true≢false t)
 passes (raises m) (Entry Attributes) u c h w t = absurd (true≢false t)
@@ -203,7 +204,7 @@ isReset (raises m) = false
 isReset resets = true
 
 pub request-after : (e : Effect) (u : Unit) → request (does e u) ≡ (not (isReset e) && request u)
-unfolding does cleared restarted
+unfolding does restarted
 request-after (clears m) u = refl
 request-after (raises m) u = refl
 request-after resets u = refl

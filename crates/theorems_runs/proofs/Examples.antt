@@ -7,7 +7,7 @@ use Prim.Native.Nat.{ℕ, zero, suc, _<_}
 use lib.Dec.{lit≤}
 use lib.ListN.{getD, replicate}
 use Rattle.rules.specs.Masks.{RD, CPUI}
-use Rattle.rules.specs.PowerOn.{none, powerOn}
+use Rattle.rules.specs.PowerOn.{blank, powerOn}
 use Rattle.rules.specs.Refusals.{damaged}
 use Rattle.rules.specs.Seen.{segment}
 use Rattle.rules.specs.declared.Descriptor.{Descriptor}
@@ -19,7 +19,7 @@ use Rattle.theorems_runs.proofs.Wider.{wider-refl}
 -- MR, SAR, DSCR, hold and the descriptors of segments 0 to 2, all else as at power-on
 abbrev pub unitOf : (mr sar dscr : ℕ) → (hold : Bool) → (x y z : Descriptor) → Unit
 unitOf mr sar dscr hold x y z = record {
-  table = x ∷ y ∷ z ∷ replicate 61 none;
+  table = x ∷ y ∷ z ∷ replicate 61 blank;
   registers = record {
     control = record { mr = mr; sar = sar; dscr = dscr };
     faults = powerOn .registers .faults;
@@ -38,11 +38,11 @@ unit-undamaged x y z = record { size = refl; sound = refl }
 
 -- a unit of no descriptors
 abbrev pub bare : Unit
-bare = record { table = []; registers = unit none none none .registers }
+bare = record { table = []; registers = unit blank blank blank .registers }
 
 -- where these descriptors are wider, all are
 pub wider-entries : {x y z x' y' z' : Descriptor} → Wider x x' → Wider y y' → Wider z z' → (i : ℕ) → i < 64
-    → Wider (getD (x ∷ y ∷ z ∷ replicate 61 none) i none) (getD (x' ∷ y' ∷ z' ∷ replicate 61 none) i none)
+    → Wider (getD (x ∷ y ∷ z ∷ replicate 61 blank) i blank) (getD (x' ∷ y' ∷ z' ∷ replicate 61 blank) i blank)
 wider-entries p q s zero h = p
 wider-entries p q s (suc zero) h = q
 wider-entries p q s (suc (suc zero)) h = s

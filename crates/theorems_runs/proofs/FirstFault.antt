@@ -11,13 +11,12 @@ use borrow.Author.Tests.{eqb-true, eq-eqb}
 use Rattle.rules.proofs.FlagLaws.{has-bit}
 use Rattle.rules.specs.Flags.{has, lacks}
 use Rattle.rules.specs.Masks.{SYS, RDV, SYSV, SLV, CPUIV, EXCV, PWW, PRIMARY}
-use Rattle.rules.specs.PowerOn.{none}
+use Rattle.rules.specs.PowerOn.{blank}
 use Rattle.rules.specs.Seen.{segment, cycle}
 use Rattle.rules.specs.Runs.{units}
 use Rattle.rules.specs.Status.{quieted}
 use Rattle.rules.specs.Recording.{firstEntry, added, raised, recorded}
 use Rattle.rules.specs.Memory.{begun, noted, resumed}
-use Rattle.rules.specs.Commands.{controlled, cleared}
 use Rattle.rules.specs.Step.{after, stepped}
 use Rattle.rules.specs.declared.Cycle.{Cycle}
 use Rattle.rules.specs.declared.Registers.{Registers}
@@ -113,7 +112,7 @@ unfolding begun
 begun-faulted r starts p = p
 
 became-stands : {back wiped : Bool} {c : Cycle} {r s : Registers} → Became back wiped c r s → wiped ≡ false → faulted r → Stands r s
-unfolding controlled cleared quieted resumed
+unfolding quieted resumed
 became-stands {r} stayed e p = (p, kept-refl r)
 became-stands {r} (controls k f) e p = (p, record { flags = kept-refl r .flags; vsn = refl; voff = refl; bcsr = refl; isn = refl; ioff = refl })
 became-stands (empties w) e p = absurd (true≢false (sym w ∙ e))
@@ -154,7 +153,7 @@ unfolding computed units Along
 flag-needed claim =
     false≢true
     (ap (λ (n : ℕ). eqb n 0)
-    (claim (unit none (segment 0 0xFF SYS) none) (cycle false false true 8 1 0 ∷ []) refl (refl, refl) .0 .vsn))
+    (claim (unit blank (segment 0 0xFF SYS) blank) (cycle false false true 8 1 0 ∷ []) refl (refl, refl) .0 .vsn))
 
 pub each-wipes : EachWipes
 unfolding computed

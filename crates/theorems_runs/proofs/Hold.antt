@@ -8,7 +8,7 @@ use lib.Dec.{leb}
 use lib.ListN.{getD}
 use Rattle.rules.specs.Bus.{cpu, fetch}
 use Rattle.rules.specs.Masks.{DMAI}
-use Rattle.rules.specs.PowerOn.{none, powerOn}
+use Rattle.rules.specs.PowerOn.{blank, powerOn}
 use Rattle.rules.specs.Seen.{segment, cycle, acknowledge, command, translating}
 use Rattle.rules.specs.Runs.{final}
 use Rattle.rules.specs.Step.{place, after, stepped}
@@ -37,13 +37,13 @@ told true false true f w t v p = refl
 
 -- the descriptor that is checked is that of the cycle's segment
 violation-exactly : (u : Unit) (c : Cycle)
-    → (admitted u c && memoryCycle c && violated (u .registers) (getD (u .table) (place u c) none) c) ≡ cpuViolation u c
+    → (admitted u c && memoryCycle c && violated (u .registers) (getD (u .table) (place u c) blank) c) ≡ cpuViolation u c
 unfolding violated
 violation-exactly u c =
     let mr : ℕ = u .registers .control .mr in
-    where-true (admitted u c && memoryCycle c) (violated (u .registers) (getD (u .table) (place u c) none) c)
+    where-true (admitted u c && memoryCycle c) (violated (u .registers) (getD (u .table) (place u c) blank) c)
     (violated (u .registers) (segmentOf u c) c)
-    (λ e. ap (λ (i : ℕ). violated (u .registers) (getD (u .table) i none) c) (memory-place u c (and-r (admitted u c) _ e)))
+    (λ e. ap (λ (i : ℕ). violated (u .registers) (getD (u .table) i blank) c) (memory-place u c (and-r (admitted u c) _ e)))
     ∙ rw (conditions-way mr c, breaks-exactly (segmentOf u c) c)
     (told (admitted u c) (c .reset) (leb 8 (c .status) && leb (c .status) 13) (fetch c) (u .registers .notes .awaits)
     (translationConditions mr c) (breaks (segmentOf u c) c) (cpu c))

@@ -7,11 +7,11 @@ use Prim.Native.Nat.{ℕ}
 use native.Mathlib.Omega.{arith}
 use lib.Dec.{eqb, lit≤, lit<}
 use Rattle.rules.specs.Masks.{DIRW}
-use Rattle.rules.specs.PowerOn.{none, powerOn}
+use Rattle.rules.specs.PowerOn.{blank, powerOn}
 use Rattle.rules.specs.Seen.{segment, cycle, command}
 use Rattle.rules.specs.declared.Cycle.{Cycle}
 use Rattle.rules.specs.declared.Descriptor.{Descriptor}
-use Rattle.rules.specs.declared.Lines.{Lines}
+use Rattle.rules.specs.declared.Address.{Address}
 use Rattle.rules.specs.declared.Unit.{Unit}
 use Rattle.theorems_runs.specs.Narrower.{Narrower, AlongBoth, HoldNeeded, MrNeeded, SarNeeded, DscrNeeded, TurnsExcluded}
 use Rattle.theorems_runs.specs.Narrower.{RelationStops, UndamagedNeeded, TablesNeeded}
@@ -29,7 +29,7 @@ dataWrite = cycle false false false 8 0 0
 
 -- MR and hold, all else as at power-on
 held : (mr : ℕ) → (hold : Bool) → Unit
-held mr hold = unitOf mr 0 0 hold none none none
+held mr hold = unitOf mr 0 0 hold blank blank blank
 
 held-undamaged : (mr : ℕ) (hold : Bool) → Undamaged (held mr hold)
 unfolding held computed
@@ -48,25 +48,25 @@ pub mr-needed : MrNeeded
 unfolding dataWrite held before AlongBoth computed
 mr-needed claim =
     false≢true
-    (ap (λ (l : Lines). l .driven)
+    (ap (λ (l : Address). l .driven)
     (claim (held 0x00 false) (held 0x80 false) (dataWrite ∷ []) (held-undamaged _ _, held-undamaged _ _, λ i s. wider-refl _, λ z. z)
-    (refl, refl) .0 .lines))
+    (refl, refl) .0 .address))
 
 -- MR %80: SAR 64 makes the one unit or the other refuse it, and no address is driven there
 broken : Unit
-broken = unitOf 0x80 64 0 false none none none
+broken = unitOf 0x80 64 0 false blank blank blank
 
 pub undamaged-needed : UndamagedNeeded
 unfolding dataWrite held broken before AlongBoth computed
 undamaged-needed = (
   λ claim.
       false≢true
-      (ap (λ (l : Lines). l .driven)
-      (claim broken (held 0x80 false) (dataWrite ∷ []) (held-undamaged _ _, λ i s. wider-refl _, refl, λ z. z) (refl, refl) .0 .lines)),
+      (ap (λ (l : Address). l .driven)
+      (claim broken (held 0x80 false) (dataWrite ∷ []) (held-undamaged _ _, λ i s. wider-refl _, refl, λ z. z) (refl, refl) .0 .address)),
   λ claim.
       true≢false
-      (ap (λ (l : Lines). l .driven)
-      (claim (held 0x80 false) broken (dataWrite ∷ []) (held-undamaged _ _, λ i s. wider-refl _, refl, λ z. z) (refl, refl) .0 .lines)),
+      (ap (λ (l : Address). l .driven)
+      (claim (held 0x80 false) broken (dataWrite ∷ []) (held-undamaged _ _, λ i s. wider-refl _, refl, λ z. z) (refl, refl) .0 .address)),
 )
 
 -- MR %C0: segment 0 is read-only in the second unit alone
@@ -74,7 +74,7 @@ pub tables-needed : TablesNeeded
 unfolding dataWrite before AlongBoth computed
 tables-needed claim =
     false≢true
-    (claim (unit writable none none) (unit readOnly none none) (dataWrite ∷ []) (unit-undamaged _ _ _, unit-undamaged _ _ _, refl, λ z. z)
+    (claim (unit writable blank blank) (unit readOnly blank blank) (dataWrite ∷ []) (unit-undamaged _ _ _, unit-undamaged _ _ _, refl, λ z. z)
     (refl, refl) .0 .sup refl)
 
 -- SAR 0 and 2, MR %E0, segment 2 at %FFF0 in both: %0C writes %00 to the base at SAR, which is segment 2's in the second unit alone. Records
@@ -83,13 +83,13 @@ high : Descriptor
 high = segment 0xFFF0 0x00 0
 
 at-sar : (sar : ℕ) → Unit
-at-sar sar = unitOf 0xE0 sar 0 false none none high
+at-sar sar = unitOf 0xE0 sar 0 false blank blank high
 
 pub sar-needed : SarNeeded
 unfolding high at-sar before AlongBoth computed
 sar-needed claim =
     false≢true
-    (ap (λ (l : Lines). eqb (l .block) 0x00F0)
+    (ap (λ (l : Address). eqb (l .block) 0x00F0)
     (claim (at-sar 0) (at-sar 2) (command false 0x0C 0x00 ∷ cycle false false false 8 66 0 ∷ []) (
       record {
         first = record { size = refl; sound = refl };
@@ -100,17 +100,17 @@ sar-needed claim =
       },
       refl,
     )
-    (λ e. refl, (λ e. refl, refl)) .1 .0 .lines))
+    (λ e. refl, (λ e. refl, refl)) .1 .0 .address))
 
 -- DSCR 0 and 3, MR %C0: %0B writes %01 to the base in the first unit and to the attributes in the second. Records 83000B01 18000000
 at-byte : (dscr : ℕ) → Unit
-at-byte dscr = unitOf 0xC0 0 dscr false none none none
+at-byte dscr = unitOf 0xC0 0 dscr false blank blank blank
 
 pub dscr-needed : DscrNeeded
 unfolding at-byte before AlongBoth computed
 dscr-needed claim =
     true≢false
-    (ap (λ (l : Lines). eqb (l .block) 0x0100)
+    (ap (λ (l : Address). eqb (l .block) 0x0100)
     (claim (at-byte 0) (at-byte 3) (command false 0x0B 0x01 ∷ cycle false true false 8 0 0 ∷ []) (
       record {
         first = record { size = refl; sound = refl };
@@ -121,7 +121,7 @@ dscr-needed claim =
       },
       refl,
     )
-    (λ e. refl, (λ e. refl, refl)) .1 .0 .lines))
+    (λ e. refl, (λ e. refl, refl)) .1 .0 .address))
 
 -- SAR 2, DSCR 3, MR %C0: segment 2 ends at %00 in the first unit and at %01 in the second. Once %0F has put DIRW into both, it begins there:
 -- block %00 is inside the first's and outside the second's. Records 83000F20 08020000
@@ -129,7 +129,7 @@ ending : (limit : ℕ) → Descriptor
 ending limit = segment 0 limit 0
 
 turning : (limit : ℕ) → Unit
-turning limit = unitOf 0xC0 2 3 false none none (ending limit)
+turning limit = unitOf 0xC0 2 3 false blank blank (ending limit)
 
 one-wider : Wider (ending 0x00) (ending 0x01)
 unfolding ending
@@ -165,7 +165,7 @@ turns-excluded claim =
 -- aborted in the first unit and suppressed in the second, and so is the read after it, of a segment that is open in both. MR %C0; records
 -- 08010000 1D020000 18000000
 fenced : Descriptor → Unit
-fenced d = unitOf 0xC0 0 0 false none d closed
+fenced d = unitOf 0xC0 0 0 false blank d closed
 
 fenced-narrower : Narrower (fenced readOnly) (fenced writable)
 unfolding fenced computed
@@ -218,12 +218,12 @@ unfolding high at-sar at-byte AlongBoth CoversBut computed
 put-back-needed = (
   λ claim.
       true≢false
-      (ap (λ (l : Lines). eqb (l .block) 0x00F0)
+      (ap (λ (l : Address). eqb (l .block) 0x00F0)
       (claim (at-sar 0) (command false 0x01 0x02 ∷ []) (record { size = refl; sound = refl }) (refl, refl) (λ i s. wider-refl _, refl)
       (command false 0x0C 0x00 ∷ cycle false false false 8 66 0 ∷ []) (λ e. refl, (λ e. refl, refl)) .2 .0)),
   λ claim.
       true≢false
-      (ap (λ (l : Lines). eqb (l .block) 0x0100)
+      (ap (λ (l : Address). eqb (l .block) 0x0100)
       (claim (at-byte 3) (command false 0x20 0x00 ∷ []) (record { size = refl; sound = refl }) (refl, refl) (λ i s. wider-refl _, refl)
       (command false 0x0B 0x01 ∷ cycle false true false 8 0 0 ∷ []) (λ e. refl, (λ e. refl, refl)) .2 .0)),
 )

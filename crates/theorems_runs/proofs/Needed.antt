@@ -5,7 +5,7 @@ use mathlib.Core.Bool.{Bool, true, false, false≢true}
 use mathlib.Core.List.{List, [], _∷_}
 use Rattle.rules.specs.Masks.{DIRW}
 use lib.Dec.{lit≤}
-use Rattle.rules.specs.PowerOn.{none}
+use Rattle.rules.specs.PowerOn.{blank}
 use Rattle.rules.specs.Seen.{segment, cycle, command}
 use Rattle.rules.specs.Runs.{answers}
 use Rattle.rules.specs.declared.Cycle.{Cycle}
@@ -32,10 +32,10 @@ unfolding faultThenFetch before computed
 stop-needed claim = refuted _ claim refl
   where
     first : Unit
-    first = unit none readOnly closed
+    first = unit blank readOnly closed
 
     second : Unit
-    second = unit none writable closed
+    second = unit blank writable closed
 
     -- by any stop that leaves both cycles
     refuted : (stop : Unit → Unit → Cycle → Bool) → TighterCovers NoDescriptorWrite stop
@@ -74,6 +74,6 @@ pub writes-excluded : WritesExcluded
 unfolding short long turnThenRead before computed
 writes-excluded claim =
     false≢true
-    (claim (unit short none none) (unit long none none) turnThenRead
+    (claim (unit short blank blank) (unit long blank blank) turnThenRead
     (unit-undamaged _ _ _) (unit-undamaged _ _ _) (unit-loosened long-wider (wider-refl _))
     (refl, (refl, refl)) .1 .0 .sup refl)

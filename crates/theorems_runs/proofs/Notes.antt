@@ -9,7 +9,7 @@ use Rattle.rules.specs.PowerOn.{quiet, powerOn}
 use Rattle.rules.specs.Status.{quieted}
 use Rattle.rules.specs.Recording.{firstEntry, added, raised, recorded}
 use Rattle.rules.specs.Memory.{begun, noted, resumed}
-use Rattle.rules.specs.Commands.{controlled, cleared, restarted}
+use Rattle.rules.specs.Commands.{restarted}
 use Rattle.rules.specs.Step.{after}
 use Rattle.rules.specs.declared.Cycle.{Cycle}
 use Rattle.rules.specs.declared.Registers.{Registers}
@@ -39,7 +39,7 @@ unfolding begun
 began-ordered r starts h = record { own = λ z. h .own (and-l (r .notes .own) _ z); awaits = h .awaits }
 
 became-ordered : {back wiped : Bool} {c : Cycle} {r s : Registers} → Became back wiped c r s → Ordered (r .notes) → Ordered (s .notes)
-unfolding controlled cleared restarted quieted resumed noted
+unfolding restarted quieted resumed noted
 became-ordered stayed h = h
 became-ordered (controls k f) h = h
 became-ordered (empties w) h = h

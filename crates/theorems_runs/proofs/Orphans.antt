@@ -10,12 +10,13 @@ use lib.Dec.{eqb}
 use Rattle.rules.specs.Flags.{has, lacks, with}
 use Rattle.rules.specs.Masks.{SWW, FATL, PRIMARY}
 use Rattle.rules.specs.PowerOn.{powerOn}
-use Rattle.rules.specs.Refusals.{orphan, damaged, plain, refused}
+use Rattle.rules.specs.Refusals.{orphan, damaged}
+use Rattle.rules.specs.Answers.{plain, refused}
 use Rattle.rules.specs.Runs.{answers}
 use Rattle.rules.specs.Status.{quieted}
 use Rattle.rules.specs.Recording.{firstEntry, added, raised, recorded}
 use Rattle.rules.specs.Memory.{begun, noted, resumed}
-use Rattle.rules.specs.Commands.{controlled, cleared, restarted}
+use Rattle.rules.specs.Commands.{restarted}
 use Rattle.rules.specs.Step.{decided, decision, after, stepped}
 use Rattle.rules.specs.declared.Answer.{Answer}
 use Rattle.rules.specs.declared.Cycle.{Cycle}
@@ -56,7 +57,7 @@ recorded-rooted r c event small h =
     (λ p. or-rooted v event (rw p)) (λ flag p. or-rooted v flag (rw p))
 
 pub became-rooted : {back wiped : Bool} {c : Cycle} {r s : Registers} → Became back wiped c r s → Rooted r → Rooted s
-unfolding controlled cleared restarted quieted resumed begun noted
+unfolding restarted quieted resumed begun noted
 became-rooted stayed h = h
 became-rooted (controls k f) h = h
 became-rooted (empties w) h = refl

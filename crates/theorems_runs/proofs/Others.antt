@@ -9,10 +9,10 @@ use lib.Dec.{eqb, leb}
 use lib.ListN.{getD}
 use borrow.Author.Tests.{ne-eqb}
 use Rattle.rules.proofs.Blind.{Kindred, keep, put, raise, Unseen, unseen-refl, decided-unseen, own-segment}
-use Rattle.rules.specs.PowerOn.{none}
+use Rattle.rules.specs.PowerOn.{blank}
 use Rattle.rules.specs.Refusals.{damaged, outOfRange}
 use Rattle.rules.specs.Runs.{answers, units}
-use Rattle.rules.specs.Step.{decided, placeOf, place, marked, changed, decision, after}
+use Rattle.rules.specs.Step.{decided, placeOf, place, withFlags, changed, decision, after}
 use Rattle.rules.specs.declared.Change.{Change}
 use Rattle.rules.specs.declared.Cycle.{Cycle}
 use Rattle.rules.specs.declared.Registers.{Registers}
@@ -32,28 +32,28 @@ module _ (inside : ℕ → Bool) (a b : Unit) (c : Cycle) (h : Alike inside a b)
   same-place = ap (λ (r : Registers). placeOf r c % 64) (sym (h .registers))
 
   -- either the cycle looks at a descriptor, which is the same in both units, or it looks at none
-  step-unseen : Unseen (getD (a .table) (place a c) none) (getD (b .table) (place a c) none) (decision a c) (decision b c)
+  step-unseen : Unseen (getD (a .table) (place a c) blank) (getD (b .table) (place a c) blank) (decision a c) (decision b c)
   unfolding decision decided
   step-unseen = rw (sym (h .registers)) (go (meetsConditions a c || descriptorRead c) refl)
     where
       go : (t : Bool) → (meetsConditions a c || descriptorRead c) ≡ t
-          → Unseen (getD (a .table) (place a c) none) (getD (b .table) (place a c) none)
-          (decided (a .registers) (getD (a .table) (place a c) none) c) (decided (a .registers) (getD (b .table) (place a c) none) c)
+          → Unseen (getD (a .table) (place a c) blank) (getD (b .table) (place a c) blank)
+          (decided (a .registers) (getD (a .table) (place a c) blank) c) (decided (a .registers) (getD (b .table) (place a c) blank) c)
       go true e = rw (h .table (place a c) (omega arith) (may e)) (unseen-refl _)
       go false e = decided-unseen (a .registers) _ _ c (damaged (a .registers)) (outOfRange c) (c .reset) (looks-told a c e)
 
   -- a change keeps the descriptors in the set equal
-  change-alike : Sized a → Sized b → (k l : Change) → Kindred (getD (a .table) (place a c) none) (getD (b .table) (place a c) none) k l
-      → (j : ℕ) → j < 64 → inside j ≡ true → getD (changed k (place a c) (a .table)) j none ≡ getD (changed l (place a c) (b .table)) j none
+  change-alike : Sized a → Sized b → (k l : Change) → Kindred (getD (a .table) (place a c) blank) (getD (b .table) (place a c) blank) k l
+      → (j : ℕ) → j < 64 → inside j ≡ true → getD (changed k (place a c) (a .table)) j blank ≡ getD (changed l (place a c) (b .table)) j blank
   unfolding changed
   change-alike n m k l keep j low e = h .table j low e
   change-alike n m k l (put make) j low e =
-      set-both (λ x y. x ≡ y) none _ _ (a .table) (b .table) (place a c) j (n ∙ sym m) (h .table j low e)
+      set-both (λ x y. x ≡ y) blank _ _ (a .table) (b .table) (place a c) j (n ∙ sym m) (h .table j low e)
       λ z. ap make (h .table (place a c) (omega arith) (subst (λ i. inside i ≡ true) z e))
   change-alike n m k l (raise mask) j low e =
-      at-map (marked mask) (a .table) j none (omega (arith, n))
-      ∙ ap (marked mask) (h .table j low e)
-      ∙ sym (at-map (marked mask) (b .table) j none (omega (arith, m)))
+      at-map (withFlags mask) (a .table) j blank (omega (arith, n))
+      ∙ ap (withFlags mask) (h .table j low e)
+      ∙ sym (at-map (withFlags mask) (b .table) j blank (omega (arith, m)))
 
   step-alike : Sized a → Sized b → Alike inside (after a c) (after b c)
   unfolding after

@@ -9,7 +9,7 @@ use lib.Dec.{eqb, leb}
 use lib.ListN.{getD}
 use borrow.Author.Tests.{eq-eqb, eqb-true, leb-true, not-true}
 use Rattle.rules.specs.Masks.{RD}
-use Rattle.rules.specs.PowerOn.{none, powerOn}
+use Rattle.rules.specs.PowerOn.{blank, powerOn}
 use Rattle.rules.specs.Refusals.{outOfRange}
 use Rattle.rules.specs.Seen.{segment, cycle, command}
 use Rattle.rules.specs.Runs.{answers}
@@ -34,10 +34,10 @@ abbrev locked : Descriptor
 locked = segment 0x3000 0xFF RD
 
 abbrev left : Unit
-left = unit (segment 0x1000 0x10 0) none locked
+left = unit (segment 0x1000 0x10 0) blank locked
 
 abbrev right : Unit
-right = unit (segment 0x2000 0x20 RD) none locked
+right = unit (segment 0x2000 0x20 RD) blank locked
 
 -- the set: all segments but 0
 abbrev mine : ℕ → Bool
@@ -46,7 +46,7 @@ mine i = not (eqb i 0)
 alike : Alike mine left right
 alike = record { registers = refl; table = entries }
   where
-    entries : (i : ℕ) → i < 64 → mine i ≡ true → getD (left .table) i none ≡ getD (right .table) i none
+    entries : (i : ℕ) → i < 64 → mine i ≡ true → getD (left .table) i blank ≡ getD (right .table) i blank
     entries zero low e = absurd (false≢true e)
     entries (suc zero) low e = refl
     entries (suc (suc i)) low e = refl
@@ -56,7 +56,7 @@ readZero = cycle false true false 8 0 0
 
 -- no answer drives the second unit's block of segment 0
 abbrev elsewhere : List Answer → Bool
-elsewhere l = all (λ (x : Answer). not (eqb (x .lines .block) 0x2000)) l
+elsewhere l = all (λ (x : Answer). not (eqb (x .address .block) 0x2000)) l
 
 read-tells : answers left (readZero ∷ []) ≡ answers right (readZero ∷ []) → ⊥
 unfolding computed
@@ -136,10 +136,10 @@ unfolding Along computed
 size-needed claim =
     true≢false
     (ap (all (λ (x : Answer). not (x .sup)))
-    (claim (λ i. eqb i 0) bare (unit none none none) (command false 0x15 0 ∷ readZero ∷ []) refl refl
+    (claim (λ i. eqb i 0) bare (unit blank blank blank) (command false 0x15 0 ∷ readZero ∷ []) refl refl
     (record { registers = refl; table = entries })
     ((λ e. absurd (false≢true e), refl), ((λ e. refl, refl), refl)) .0))
   where
-    entries : (i : ℕ) → i < 64 → eqb i 0 ≡ true → getD (bare .table) i none ≡ getD (unit none none none .table) i none
+    entries : (i : ℕ) → i < 64 → eqb i 0 ≡ true → getD (bare .table) i blank ≡ getD (unit blank blank blank .table) i blank
     entries zero low e = refl
     entries (suc i) low e = absurd (omega (arith, eqb-true (suc i) 0 e))

@@ -5,7 +5,7 @@ use mathlib.Core.Bool.{Bool, true, false}
 use mathlib.Core.Option.{Option, none, some}
 use Prim.Native.Nat.{ℕ}
 use native.Mathlib.Omega.{arith}
-use Rattle.rules.specs.Refusals.{plain, refused}
+use Rattle.rules.specs.Answers.{plain, refused}
 use Rattle.rules.specs.Step.{changed, decision, after}
 use Rattle.rules.specs.declared.Decision.{Decision}
 use Rattle.rules.specs.declared.Kind.{Kind}
@@ -39,4 +39,4 @@ pub refusal-leaves : RefusalLeaves
 unfolding refused plain after changed
 refusal-leaves u c n k =
     let e : decision u c ≡ refused n (u .registers) = refusal-of n (says u c .left) (sym (says u c .kind) ∙ k) in
-    record { lines = rw e; sup = rw e; trap = rw e; drives = rw e; byte = rw e; unit = rw e }
+    record { address = rw e; sup = rw e; trap = rw e; drives = rw e; byte = rw e; unit = rw e }

@@ -8,16 +8,17 @@ use lib.ListN.{getD}
 use borrow.Author.Tests.{eqb-true}
 use Rattle.rules.proofs.Blind.{isTranslated}
 use Rattle.rules.specs.Bus.{cpu, write, fetch}
-use Rattle.rules.specs.Checks.{rightsOf, outOfLength, warns}
-use Rattle.rules.specs.PowerOn.{none}
-use Rattle.rules.specs.Refusals.{damaged, outOfRange, plain, refused}
+use Rattle.rules.specs.Checks.{found}
+use Rattle.rules.specs.PowerOn.{blank}
+use Rattle.rules.specs.Refusals.{damaged, outOfRange}
+use Rattle.rules.specs.Answers.{plain, refused}
 use Rattle.rules.specs.Status.{resetBy, quieted, acknowledged, ignored, purposeOf, byPurpose, byStatus}
 use Rattle.rules.specs.Recording.{firstEntry, added, raised, eventOf, recorded}
 use Rattle.rules.specs.Memory.{begun, noted, checked, accessed, resumed, aborted, untranslated, memoryBy, aborts, memory}
 use Rattle.rules.specs.Translation.{wayOf}
 use Rattle.rules.specs.Codes.{commandOf}
 use Rattle.rules.specs.Entry.{moved}
-use Rattle.rules.specs.Commands.{given, controlled, cleared, restarted, programmed, entry, acted, executed, commanded}
+use Rattle.rules.specs.Commands.{replied, restarted, programmed, entry, acted, executed, commanded}
 use Rattle.rules.specs.Step.{decidedBy, decided, place, decision}
 use Rattle.rules.specs.declared.Action.{Action}
 use Rattle.rules.specs.declared.Action.the-variants.{SoftwareReset, ClearVtr, ClearSww, ClearFatl, SetCpui, SetDmai}
@@ -27,7 +28,7 @@ use Rattle.rules.specs.declared.Control.{Control}
 use Rattle.rules.specs.declared.Cycle.{Cycle}
 use Rattle.rules.specs.declared.Decision.{Decision}
 use Rattle.rules.specs.declared.Descriptor.{Descriptor}
-use Rattle.rules.specs.declared.Lines.{Lines}
+use Rattle.rules.specs.declared.Address.{Address}
 use Rattle.rules.specs.declared.Purpose.{Purpose}
 use Rattle.rules.specs.declared.Registers.{Registers}
 use Rattle.rules.specs.declared.Unit.{Unit}
@@ -79,17 +80,16 @@ recorded-leaves r c e =
     (λ flag p. (refl, refl))
 
 module _ (r : Registers) (d : Descriptor) (c : Cycle) where
-  accessed-leaves : (s : Registers) (l : Lines) → Leaves (accessed s d c l) (s .control) (fails d c && cpu c || s .notes .hold)
+  accessed-leaves : (s : Registers) (l : Address) → Leaves (accessed s d c l) (s .control) (fails d c && cpu c || s .notes .hold)
   unfolding accessed checked noted
   accessed-leaves s l =
-      let rights : ℕ = rightsOf (d .attributes) c in
-      let keeps : _ = recorded-leaves s c (eventOf (c .dma) (fails d c) (warns d c (fails d c)) rights (outOfLength d c)) in
+      let keeps : _ = recorded-leaves s c (eventOf (c .dma) (found d c)) in
       record {
         control = keeps .0;
         hold = ap (λ (h : Bool). h || (fails d c && cpu c)) (keeps .1) ∙ or-comm (s .notes .hold) (fails d c && cpu c);
       }
 
-  memory-leaves : (b : Bool) (w : Way) (l : Lines) → (b ≡ true → fetch c ≡ true)
+  memory-leaves : (b : Bool) (w : Way) (l : Address) → (b ≡ true → fetch c ≡ true)
       → Leaves (memoryBy b w r d c l) (r .control) (not b && isTranslated w && fails d c && cpu c || not (fetch c) && r .notes .hold)
   unfolding aborted resumed untranslated begun
   memory-leaves true w l f = record { control = refl; hold = sym (ap (λ (t : Bool). not t && r .notes .hold) (f refl)) }
@@ -101,7 +101,7 @@ module _ (r : Registers) (d : Descriptor) (c : Cycle) where
   memory-leaves false way.Silent l f = record { control = refl; hold = and-comm (r .notes .hold) (not (fetch c)) }
 
   acted-leaves : (a : Action) → Leaves (acted r a) (actControl a (r .control)) (not (isSoftwareReset (Act a)) && r .notes .hold)
-  unfolding acted plain restarted cleared
+  unfolding acted plain restarted
   acted-leaves SoftwareReset = record { control = refl; hold = refl }
   acted-leaves ClearVtr = record { control = refl; hold = refl }
   acted-leaves ClearSww = record { control = refl; hold = refl }
@@ -114,7 +114,7 @@ module _ (r : Registers) (d : Descriptor) (c : Cycle) where
 
   executed-leaves : (m : Command) (read : Bool)
       → Leaves (executed m read r d c) (commandControl m read c (r .control)) (not (not read && isSoftwareReset m) && r .notes .hold)
-  unfolding executed programmed given controlled entry refused plain
+  unfolding executed programmed replied entry refused plain
   executed-leaves Mr read = record { control = refl; hold = keeps-hold (not read) }
   executed-leaves Sar read = record { control = refl; hold = keeps-hold (not read) }
   executed-leaves Dscr read = record { control = refl; hold = keeps-hold (not read) }
@@ -185,11 +185,11 @@ pub leaves : (u : Unit) (c : Cycle)
     → Leaves (decision u c)
     (controlBy (damaged (u .registers)) (outOfRange c) (c .reset) (eqb (c .status) 3 && (cpu c && c .select)) c (u .registers .control))
     (not (damaged (u .registers)) && not (outOfRange c) && (not (c .reset) && (leb 8 (c .status) && leb (c .status) 13))
-    && violated (u .registers) (getD (u .table) (place u c) none) c
+    && violated (u .registers) (getD (u .table) (place u c) blank) c
     || not
     (not (damaged (u .registers)) && not (outOfRange c)
     && (c .reset || not (c .reset) && eqb (c .status) 4 && cpu c || not (c .reset) && fetch c
     || not (c .reset) && eqb (c .status) 3 && (cpu c && c .select) && write c && eqb (c .offset) 0x10))
     && u .registers .notes .hold)
 unfolding decision decided
-leaves u c = decided-leaves (u .registers) (getD (u .table) (place u c) none) c (damaged (u .registers)) (outOfRange c) (c .reset)
+leaves u c = decided-leaves (u .registers) (getD (u .table) (place u c) blank) c (damaged (u .registers)) (outOfRange c) (c .reset)

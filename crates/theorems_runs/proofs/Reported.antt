@@ -10,22 +10,22 @@ use lib.ListN.{getD, replicate}
 use borrow.Author.Tests.{ne-eqb, not-true}
 use Rattle.rules.proofs.Blind.{isTranslated}
 use Rattle.rules.specs.Bus.{cpu, fetch}
-use Rattle.rules.specs.Checks.{rightsOf, outOfLength}
+use Rattle.rules.specs.Checks.{rightsOf, outOfLength, found}
 use Rattle.rules.specs.Flags.{has, lacks, with, flagIf}
 use Rattle.rules.specs.Masks.{SLV, DIRW, PWW, SWW, FATL, PRIMARY}
-use Rattle.rules.specs.PowerOn.{none, powerOn}
+use Rattle.rules.specs.PowerOn.{blank, powerOn}
 use Rattle.rules.specs.Refusals.{damaged, outOfRange}
 use Rattle.rules.specs.Seen.{segment, cycle}
 use Rattle.rules.specs.Runs.{final}
 use Rattle.rules.specs.Status.{quieted, purposeOf, byPurpose, byStatus}
-use Rattle.rules.specs.Recording.{eventOf, firstEntry, added, raised, rowOf, stackWarning, recorded}
+use Rattle.rules.specs.Recording.{eventBy, eventOf, firstEntry, added, raised, rowOf, stackWarning, recorded}
 use Rattle.rules.specs.Memory.{begun, noted, resumed, checked, accessed, through, memoryBy, memory}
-use Rattle.rules.specs.Translation.{wayOf, linesOf}
-use Rattle.rules.specs.Commands.{controlled, cleared, restarted}
+use Rattle.rules.specs.Translation.{wayOf, addressOf}
+use Rattle.rules.specs.Commands.{restarted}
 use Rattle.rules.specs.Step.{decidedBy, decided, place, decision, after}
 use Rattle.rules.specs.declared.Cycle.{Cycle}
 use Rattle.rules.specs.declared.Descriptor.{Descriptor}
-use Rattle.rules.specs.declared.Lines.{Lines}
+use Rattle.rules.specs.declared.Address.{Address}
 use Rattle.rules.specs.declared.Purpose.{Purpose}
 use Rattle.rules.specs.declared.Registers.{Registers}
 use Rattle.rules.specs.declared.Unit.{Unit}
@@ -66,9 +66,11 @@ module _ (d : Descriptor) (c : Cycle) (cpus : c .dma ≡ false) (v : fails d c �
   unfolding flags
   flags-five = or-if 5 (outOfLength d c) SLV (lit< tt) (rights-small (d .attributes) c cpus)
 
-  event-flags : (w : Bool) → eventOf (c .dma) true w (rightsOf (d .attributes) c) (outOfLength d c) ≡ flags
+  event-flags : eventOf (c .dma) (found d c) ≡ flags
   unfolding flags eventOf
-  event-flags w = rw cpus
+  event-flags =
+      ap (λ (t : Bool). eventBy t (found d c .violation) (found d c .warning) flags) cpus
+      ∙ ap (λ (t : Bool). eventBy false t (found d c .warning) flags) v
 
 -- Recording
 
@@ -99,11 +101,11 @@ recorded-told r c event h some small =
     go false false false false t n p q w =
         (lacks-or (r .faults .vtr) FATL ∙ rw p, later (r .notes .request) (lacks (r .faults .vtr) FATL))
 
-accessed-told : (r : Registers) (d : Descriptor) (c : Cycle) (starts : Bool) (l : Lines) → r .notes .own ⇒ r .notes .request
+accessed-told : (r : Registers) (d : Descriptor) (c : Cycle) (starts : Bool) (l : Address) → r .notes .own ⇒ r .notes .request
     → c .dma ≡ false → fails d c ≡ true → Told r (accessed (begun r starts) d c l .registers)
 unfolding accessed checked noted begun
 accessed-told r d c starts l h cpus v =
-    rw (v, event-flags d c cpus v) (recorded-told (begun r starts) c (flags d c cpus v) began (flags-some d c cpus v) (flags-five d c cpus v))
+    rw (event-flags d c cpus v) (recorded-told (begun r starts) c (flags d c cpus v) began (flags-some d c cpus v) (flags-five d c cpus v))
   where
     began : begun r starts .notes .own ⇒ begun r starts .notes .request
     began z = h (and-l (r .notes .own) _ z)
@@ -125,13 +127,13 @@ to-translated way.Translated e = refl
 translated-decision : (u : Unit) (c : Cycle) → admitted u c ≡ true → memoryCycle c ≡ true → awaited u c ≡ false
     → translationConditions (u .registers .control .mr) c ≡ true
     → decision u c
-    ≡ accessed (begun (u .registers) (fetch c)) (segmentOf u c) c (linesOf (wayOf (u .registers .control .mr) c) (segmentOf u c .base) c)
+    ≡ accessed (begun (u .registers) (fetch c)) (segmentOf u c) c (addressOf (wayOf (u .registers .control .mr) c) (segmentOf u c .base) c)
 unfolding decision decided byStatus memory
 translated-decision u c a m w t =
     let r : Registers = u .registers in
-    let d : Descriptor = getD (u .table) (place u c) none in
+    let d : Descriptor = getD (u .table) (place u c) blank in
     let wayHere : Way = wayOf (r .control .mr) c in
-    let l : Lines = linesOf wayHere (d .base) c in
+    let l : Address = addressOf wayHere (d .base) c in
     ap (λ (t : Bool). decidedBy t (outOfRange c) (c .reset) r d c) (not-true (damaged r) (and-l (not (damaged r)) _ a))
     ∙ ap (λ (t : Bool). decidedBy false t (c .reset) r d c) (not-true (outOfRange c) (and-r (not (damaged r)) _ a))
     ∙ ap (λ (t : Bool). decidedBy false false t r d c) (not-true (c .reset) (and-l (not (c .reset)) _ m))
@@ -139,7 +141,7 @@ translated-decision u c a m w t =
     (to-memory (purposeOf (c .status)) (memory-status (c .status) ∙ and-r (not (c .reset)) _ m))
     ∙ ap (λ (t : Bool). memoryBy t wayHere r d c l) (starts (c .reset) (fetch c) (r .notes .awaits) (and-l (not (c .reset)) _ m) w)
     ∙ ap (λ (v : Way). through v (begun r (fetch c)) d c l) (to-translated wayHere (conditions-way (r .control .mr) c ∙ t))
-    ∙ ap (λ (i : ℕ). accessed (begun r (fetch c)) (getD (u .table) i none) c (linesOf wayHere (getD (u .table) i none .base) c))
+    ∙ ap (λ (i : ℕ). accessed (begun r (fetch c)) (getD (u .table) i blank) c (addressOf wayHere (getD (u .table) i blank .base) c))
     (memory-place u c m)
   where
     starts : (r f w : Bool) → not r ≡ true → (not r && f && w) ≡ false → (f && w) ≡ false
@@ -158,7 +160,7 @@ violation-reported u c h e =
     let am : m ≡ true = and-l m _ mw in
     let fault : fails (segmentOf u c) c ≡ true =
     breaks-exactly (segmentOf u c) c ∙ and-r (m && not (awaited u c) && translationConditions mr c) _ v in
-    let same : decision u c ≡ accessed (begun (u .registers) (fetch c)) (segmentOf u c) c (linesOf (wayOf mr c) (segmentOf u c .base) c) =
+    let same : decision u c ≡ accessed (begun (u .registers) (fetch c)) (segmentOf u c) c (addressOf (wayOf mr c) (segmentOf u c .base) c) =
     translated-decision u c (and-l (admitted u c) _ am) (and-r (admitted u c) _ am) (not-true _ (and-r m _ mw))
     (and-r (m && not (awaited u c)) _ mwt) in
     let told : Told (u .registers) (decision u c .registers) =
@@ -171,7 +173,7 @@ abbrev Asks : Registers → Type 0
 Asks r = r .notes .own ⇒ r .notes .request
 
 became-asks : {back wiped : Bool} {c : Cycle} {r s : Registers} → Became back wiped c r s → Asks r → Asks s
-unfolding controlled cleared restarted quieted resumed begun noted firstEntry added raised
+unfolding restarted quieted resumed begun noted firstEntry added raised
 became-asks stayed h = h
 became-asks (controls k f) h = h
 became-asks (empties w) h = h
@@ -196,7 +198,7 @@ reported-from-power-on cs c = violation-reported (final powerOn cs) c (always Ow
 -- MR %E0, segment 1 from %FF down, and a VTR and an own made by hand
 faultedUnit : (vtr : ℕ) → (own : Bool) → Unit
 faultedUnit vtr own = record {
-  table = none ∷ segment 0 0xFF DIRW ∷ replicate 62 none;
+  table = blank ∷ segment 0 0xFF DIRW ∷ replicate 62 blank;
   registers = record {
     control = record { mr = 0xE0; sar = 0; dscr = 0 };
     faults = record { vtr = vtr; vsn = 0; voff = 0; bcsr = 0 };

@@ -42,7 +42,7 @@ module _ (stop : Unit → Unit → Cycle → Bool) (stops : (a b : Unit) (c : Cy
       go true e ih = refl
       go false e ih =
           let x : (abortedFetch a c || false) ≡ false = ap (λ (t : Bool). t || false) (stops a b c e) in
-          (record { lines = h .0; sup = h .1 x }, ih x)
+          (record { address = h .0; sup = h .1 x }, ih x)
 
   tighter-covers : TighterCovers NoDescriptorWrite stop
   tighter-covers a b cs sa sb l f =

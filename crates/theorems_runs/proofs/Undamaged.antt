@@ -14,7 +14,7 @@ use Rattle.rules.specs.Refusals.{damaged}
 use Rattle.rules.specs.Status.{quieted}
 use Rattle.rules.specs.Recording.{busStatus, firstEntry, added, raised, recorded}
 use Rattle.rules.specs.Memory.{begun, noted, resumed}
-use Rattle.rules.specs.Commands.{controlled, cleared, restarted}
+use Rattle.rules.specs.Commands.{restarted}
 use Rattle.rules.specs.Step.{place, changed, decision, after, stepped}
 use Rattle.rules.specs.declared.Change.{Change}
 use Rattle.rules.specs.declared.Change.the-variants.{Keep, Put, Raise}
@@ -78,7 +78,7 @@ bus-bounded c =
     omega (arith, h)
 
 became-bounded : {back wiped : Bool} {c : Cycle} {r s : Registers} → Became back wiped c r s → Bounded r → Bounded s
-unfolding controlled cleared restarted quieted resumed begun noted firstEntry added raised
+unfolding restarted quieted resumed begun noted firstEntry added raised
 became-bounded stayed h = h
 became-bounded (controls k f) h = record { sar = f .0 (h .sar); vsn = h .vsn; isn = h .isn; bcsr = h .bcsr; dscr = f .1 (h .dscr) }
 became-bounded (empties w) h = omega arith

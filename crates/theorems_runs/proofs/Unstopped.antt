@@ -12,7 +12,8 @@ use Rattle.rules.specs.Bus.{cpu, write}
 use Rattle.rules.specs.Entry.{replaced, moved}
 use Rattle.rules.specs.Flags.{has}
 use Rattle.rules.specs.Masks.{CPUI, DMAI, DIRW, TRNS}
-use Rattle.rules.specs.Refusals.{damaged, outOfRange, off}
+use Rattle.rules.specs.Refusals.{damaged, outOfRange}
+use Rattle.rules.specs.Answers.{off}
 use Rattle.rules.specs.Codes.{commandOf}
 use Rattle.rules.specs.Step.{after, stepped}
 use Rattle.rules.specs.declared.Action.the-variants.{SoftwareReset, ClearVtr, ClearSww, ClearFatl, SetCpui, SetDmai}
@@ -21,7 +22,7 @@ use Rattle.rules.specs.declared.Command.the-variants.{Mr, Sar, Dscr, Show, Entr
 use Rattle.rules.specs.declared.Control.{Control}
 use Rattle.rules.specs.declared.Cycle.{Cycle}
 use Rattle.rules.specs.declared.Descriptor.{Descriptor}
-use Rattle.rules.specs.declared.Lines.{Lines}
+use Rattle.rules.specs.declared.Address.{Address}
 use Rattle.rules.specs.declared.Unit.{Unit}
 use Rattle.theorems_runs.specs.Answers.{awaited, abortedFetch, driven, segmentOf, breaks, violation, heldBack, SameMr}
 use Rattle.theorems_runs.specs.Cycles.{selectedCommand, acknowledge, memoryCycle, fetches, softwareReset, passingConditions}
@@ -114,10 +115,10 @@ module _ (a b : Unit) (c : Cycle) (h : Level a b) where
   wider-segment : Wider (segmentOf a c) (segmentOf b c)
   wider-segment = h .table (c .segment % 64) (omega arith)
 
-  same-address : stepped a c .answer .lines ≡ stepped b c .answer .lines
+  same-address : stepped a c .answer .address ≡ stepped b c .answer .address
   same-address = address-exactly a c ∙ go two (h .mr) (wider-segment .base) ∙ sym (address-exactly b c)
     where
-      lines : (t : Bool) (m base : ℕ) → Lines
+      lines : (t : Bool) (m base : ℕ) → Address
       lines t m base =
           cond (not t && not (outOfRange c) && memoryCycle c && (passingConditions m || translationConditions m c))
           (driven (cond (has m TRNS) ((base + c .offset) % 65536) (c .segment * 256 + c .offset))) off

@@ -10,16 +10,18 @@ use lib.Dec.{eqb, lit<}
 use Rattle.rules.specs.Bus.{cpu, write, fetch, program}
 use Rattle.rules.specs.Flags.{flagIf, has, lacks, with, without}
 use Rattle.rules.specs.Masks.{RD, SYS, CPUI, EXC, DMAI, RDV, SYSV, SLV, CPUIV, EXCV, DMAIV, SWW, FATL, PRIMARY}
-use Rattle.rules.specs.Refusals.{damaged, outOfRange, plain, refused}
+use Rattle.rules.specs.Refusals.{damaged, outOfRange}
+use Rattle.rules.specs.Answers.{plain, refused, seen}
 use Rattle.rules.specs.Status.{resetBy, quieted, acknowledged, ignored, purposeOf, byPurpose, byStatus}
-use Rattle.rules.specs.Checks.{rightsOf, outOfLength, violates, warns}
+use Rattle.rules.specs.Checks.{rightsOf, outOfLength, found}
 use Rattle.rules.specs.Recording.{eventBy, eventOf, firstEntry, added, raised, rowOf, stackWarning, recorded}
-use Rattle.rules.specs.Memory.{seen, begun, noted, storing, checked, accessed, resumed, aborted, untranslated}
+use Rattle.rules.specs.Memory.{begun, noted, storing, checked, accessed, resumed, aborted, untranslated}
 use Rattle.rules.specs.Memory.{memoryBy, aborts, memory}
 use Rattle.rules.specs.Translation.{wayOf}
 use Rattle.rules.specs.Codes.{commandOf, steps}
 use Rattle.rules.specs.Entry.{nextCounter, nextSegment, moved}
-use Rattle.rules.specs.Commands.{given, controlled, cleared, restarted, programmed, entry, acted, executed, commanded}
+use Rattle.rules.specs.Commands.{replied, restarted, programmed, entry, acted, executed, commanded}
+use Rattle.rules.specs.Registers.{withControl, withVtr}
 use Rattle.rules.specs.Step.{decidedBy, decided, decision}
 use Rattle.rules.specs.declared.Action.{Action}
 use Rattle.rules.specs.declared.Action.the-variants.{SoftwareReset, ClearVtr, ClearSww, ClearFatl, SetCpui, SetDmai}
@@ -29,7 +31,7 @@ use Rattle.rules.specs.declared.Control.{Control}
 use Rattle.rules.specs.declared.Cycle.{Cycle}
 use Rattle.rules.specs.declared.Decision.{Decision}
 use Rattle.rules.specs.declared.Descriptor.{Descriptor}
-use Rattle.rules.specs.declared.Lines.{Lines}
+use Rattle.rules.specs.declared.Address.{Address}
 use Rattle.rules.specs.declared.Part.{Part}
 use Rattle.rules.specs.declared.Part.the-variants.{Base, Limit, Attributes, Whole}
 use Rattle.rules.specs.declared.Purpose.{Purpose}
@@ -52,10 +54,10 @@ Follows j k = (j .sar ≤ 63 → k .sar ≤ 63) × (j .dscr ≤ 3 → k .dscr �
 -- s comes from r in a cycle c; `back` says that the cycle is one that takes the trap line back, `wiped` that it is one that empties the VTR
 pub data Became (back wiped : Bool) (c : Cycle) (r : Registers) : Registers → Type 0 where
   stayed : Became back wiped c r r
-  controls : (k : Control) → Follows (r .control) k → Became back wiped c r (controlled r k)
-  empties : wiped ≡ true → Became back wiped c r (cleared r 0)
+  controls : (k : Control) → Follows (r .control) k → Became back wiped c r (withControl r k)
+  empties : wiped ≡ true → Became back wiped c r (withVtr r 0)
   -- a flag that is not primary
-  clears : (flag : ℕ) → (255 - flag) % 64 ≡ 63 → Became back wiped c r (cleared r (without (r .faults .vtr) flag))
+  clears : (flag : ℕ) → (255 - flag) % 64 ≡ 63 → Became back wiped c r (withVtr r (without (r .faults .vtr) flag))
   restarts : (mr : ℕ) → back ≡ true → wiped ≡ true → Became back wiped c r (restarted r mr)
   quiets : back ≡ true → Became back wiped c r (quieted r)
   resumes : Became back wiped c r (resumed r)
@@ -98,14 +100,15 @@ rights-small a c e =
     (rw (e, and-false (has a DMAI)) (lit< tt))
 
 -- a violation's flags too, and PWW is the sixth
-event-small : (a : ℕ) (c : Cycle) (violation warning long : Bool) → eventOf (c .dma) violation warning (rightsOf a c) long < 64
+event-small : (d : Descriptor) (c : Cycle) → eventOf (c .dma) (found d c) < 64
 unfolding eventOf
-event-small a c violation warning long = go (c .dma) violation warning refl
+event-small d c = go (c .dma) (found d c .violation) (found d c .warning) refl
   where
-    go : (dma v w : Bool) → c .dma ≡ dma → eventBy dma v w (with (rightsOf a c) (flagIf long SLV)) < 64
+    go : (dma v w : Bool) → c .dma ≡ dma → eventBy dma v w (with (rightsOf (d .attributes) c) (flagIf (outOfLength d c) SLV)) < 64
     go true v w e = lit< tt
     go false true w e =
-        let flags : with (rightsOf a c) (flagIf long SLV) < 32 = or-if 5 long SLV (lit< tt) (rights-small a c e) in
+        let flags : with (rightsOf (d .attributes) c) (flagIf (outOfLength d c) SLV) < 32 =
+        or-if 5 (outOfLength d c) SLV (lit< tt) (rights-small (d .attributes) c e) in
         omega (arith, flags)
     go false false true e = lit< tt
     go false false false e = lit< tt
@@ -120,20 +123,17 @@ counter-bounded Whole n = omega arith
 module _ (back wiped : Bool) (c : Cycle) (r : Registers) (d : Descriptor) where
   -- Memory cycles
 
-  accessed-made : (starts : Bool) (l : Lines) → Made back wiped c r (accessed (begun r starts) d c l)
+  accessed-made : (starts : Bool) (l : Address) → Made back wiped c r (accessed (begun r starts) d c l)
   unfolding accessed checked seen noted begun
   accessed-made starts l =
-      let rights : ℕ = rightsOf (d .attributes) c in
-      let long : Bool = outOfLength d c in
-      let v : Bool = violates rights long in
+      let v : Bool = found d c .violation in
       record {
         shown = refl;
         became =
-            records starts _ (event-small (d .attributes) c v (warns d c v) long) (storing (begun r starts) c v) (v && cpu c)
-            (λ e. and-r (fetch c && not v) _ e);
+            records starts _ (event-small d c) (storing (begun r starts) c v) (v && cpu c) (λ e. and-r (fetch c && not v) _ e);
       }
 
-  memory-made : (b : Bool) (w : Way) (l : Lines) → Made back wiped c r (memoryBy b w r d c l)
+  memory-made : (b : Bool) (w : Way) (l : Address) → Made back wiped c r (memoryBy b w r d c l)
   unfolding aborted seen untranslated resumed
   memory-made true w l = record { shown = refl; became = resumes }
   memory-made false way.Translated l = accessed-made (fetch c) l
@@ -143,7 +143,7 @@ module _ (back wiped : Bool) (c : Cycle) (r : Registers) (d : Descriptor) where
   -- Commands
 
   programmed-made : (old : ℕ) (k : Control) → Follows (r .control) k → Made back wiped c r (programmed r c old k)
-  unfolding programmed given controlled
+  unfolding programmed replied
   programmed-made old k h = record { shown = refl; became = controls _ (either (c .read)) }
     where
       either : (b : Bool) → Follows (r .control) (cond b (r .control) k)
@@ -151,7 +151,7 @@ module _ (back wiped : Bool) (c : Cycle) (r : Registers) (d : Descriptor) where
       either false = h
 
   entry-made : (p : Part) → Made back wiped c r (entry r d p c)
-  unfolding entry given controlled moved nextSegment
+  unfolding entry replied moved nextSegment
   entry-made p =
       record {
         shown = refl;
@@ -175,7 +175,7 @@ module _ (back wiped : Bool) (c : Cycle) (r : Registers) (d : Descriptor) where
 
   executed-made : (m : Command) (read : Bool) → ((not read && isActOf 0x10 m) ≡ true → back ≡ true)
       → ((not read && isActOf 0x10 m || not read && isActOf 0x11 m) ≡ true → wiped ≡ true) → Made back wiped c r (executed m read r d c)
-  unfolding executed given refused plain
+  unfolding executed replied refused plain
   executed-made Mr read t z = programmed-made _ _ (λ s. s, λ s. s)
   executed-made Sar read t z = programmed-made _ _ (λ s. omega arith, λ s. s)
   executed-made Dscr read t z = programmed-made _ _ (λ s. s, λ s. omega arith)

@@ -12,7 +12,7 @@ use Rattle.rules.specs.Entry.{replaced}
 use Rattle.rules.specs.Flags.{has, with, flagIf}
 use Rattle.rules.specs.Masks.{RD, SYS, CPUI, EXC, DMAI, DIRW, CHG, REF}
 use Rattle.rules.specs.Memory.{touched}
-use Rattle.rules.specs.Step.{marked}
+use Rattle.rules.specs.Step.{withFlags}
 use Rattle.rules.specs.declared.Cycle.{Cycle}
 use Rattle.rules.specs.declared.Descriptor.{Descriptor}
 use Rattle.theorems_runs.specs.Answers.{breaks}
@@ -113,7 +113,7 @@ wider-refl x =
       down = λ e. le-refl _;
     }
 
-pub raised-wider : (m : ℕ) → has m DIRW ≡ false → (x y : Descriptor) → Wider x y → Wider (marked m x) (marked m y)
+pub raised-wider : (m : ℕ) → has m DIRW ≡ false → (x y : Descriptor) → Wider x y → Wider (withFlags m x) (withFlags m y)
 raised-wider m n x y w =
     record {
       base = w .base;

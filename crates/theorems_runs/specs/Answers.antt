@@ -9,15 +9,15 @@ use lib.ListN.{getD}
 use Rattle.rules.specs.Bus.{cpu, write}
 use Rattle.rules.specs.Flags.{has}
 use Rattle.rules.specs.Masks.{RD, SYS, CPUI, EXC, DMAI, DIRW, TRNS}
-use Rattle.rules.specs.PowerOn.{none as blank}
-use Rattle.rules.specs.Refusals.{off}
+use Rattle.rules.specs.PowerOn.{blank}
+use Rattle.rules.specs.Answers.{off}
 use Rattle.rules.specs.Step.{stepped}
 use Rattle.rules.specs.declared.Cycle.{Cycle}
 use Rattle.rules.specs.declared.Descriptor.{Descriptor}
 use Rattle.rules.specs.declared.Kind.{Kind}
 use Rattle.rules.specs.declared.Kind.the-variants.{Reset, Acknowledge, Command, Aborted, Translated, Passed, Ignored}
 use Rattle.rules.specs.declared.Kind.the-variants.{Refused}
-use Rattle.rules.specs.declared.Lines.{Lines}
+use Rattle.rules.specs.declared.Address.{Address}
 use Rattle.rules.specs.declared.Unit.{Unit}
 use Rattle.theorems_runs.specs.Cycles.{selectedCommand, acknowledge, memoryCycle, fetches, passingConditions, translationConditions}
 use Rattle.theorems_runs.specs.Refusal.{refusalOf, admitted}
@@ -88,12 +88,12 @@ abbrev pub addressOf : Unit → Cycle → ℕ
 addressOf u c =
     cond (has (u .registers .control .mr) TRNS) ((segmentOf u c .base + c .offset) % 65536) (c .segment * 256 + c .offset)
 
-abbrev pub driven : (block : ℕ) → Lines
+abbrev pub driven : (block : ℕ) → Address
 driven b = record { driven = true; block = b }
 
 -- CLAIM: the address lines are driven exactly there, and so; else they are off, and "An address [..] that isn't driven [..] has the value 0".
 abbrev pub AddressExactly : Type 0
-AddressExactly = (u : Unit) (c : Cycle) → stepped u c .answer .lines ≡ cond (drivesAddress u c) (driven (addressOf u c)) off
+AddressExactly = (u : Unit) (c : Cycle) → stepped u c .answer .address ≡ cond (drivesAddress u c) (driven (addressOf u c)) off
 
 -- SUP
 

@@ -6,7 +6,7 @@ use mathlib.Core.List.{List, [], _∷_}
 use Prim.Native.Nat.{ℕ, _+_, _*_}
 use lib.Dec.{eqb}
 use lib.ListN.{getD}
-use Rattle.rules.specs.PowerOn.{none, powerOn}
+use Rattle.rules.specs.PowerOn.{blank, powerOn}
 use Rattle.rules.specs.Runs.{final}
 use Rattle.rules.specs.declared.Cycle.{Cycle}
 use Rattle.rules.specs.declared.Unit.{Unit}
@@ -34,7 +34,7 @@ put code = written 3 code 0x01 false
 abbrev pub seen : Unit → ℕ
 seen u =
     u .registers .control .mr * 0x1000000 + u .registers .control .dscr * 0x10000 + u .registers .faults .vtr * 0x100
-    + getD (u .table) 0 none .attributes
+    + getD (u .table) 0 blank .attributes
 
 -- a set or clear command, another command, what is seen after the two in this order, and what after them the other way round
 pub record Row : Type 0 where

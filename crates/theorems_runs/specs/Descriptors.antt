@@ -10,10 +10,10 @@ use Rattle.rules.specs.Entry.{replaced}
 use Rattle.rules.specs.Flags.{has}
 use Rattle.rules.specs.Masks.{RD, SYS, CPUI, EXC, DMAI, DIRW}
 use Rattle.rules.specs.Memory.{touched}
-use Rattle.rules.specs.PowerOn.{none}
+use Rattle.rules.specs.PowerOn.{blank}
 use Rattle.rules.specs.Refusals.{damaged}
 use Rattle.rules.specs.Runs.{units}
-use Rattle.rules.specs.Step.{marked, stepped}
+use Rattle.rules.specs.Step.{withFlags, stepped}
 use Rattle.rules.specs.declared.Cycle.{Cycle}
 use Rattle.rules.specs.declared.Descriptor.{Descriptor}
 use Rattle.rules.specs.declared.Unit.{Unit}
@@ -23,7 +23,7 @@ use Rattle.theorems_runs.specs.Sequences.{Every, Along}
 
 -- descriptor i of a unit
 abbrev pub descriptor : Unit → ℕ → Descriptor
-descriptor u i = getD (u .table) i none
+descriptor u i = getD (u .table) i blank
 
 -- an unrefused selected CPU write of %08 to %0F while SAR is i: "All eight work on the descriptor at SAR"
 abbrev pub writesTo : Unit → Cycle → ℕ → Bool
@@ -91,8 +91,8 @@ abbrev pub SetsWhere : (There : Unit → ℕ → Type 0) → Type 0
 SetsWhere There =
     (u : Unit) (c : Cycle) (i : ℕ)
     → There u i
-    → (writesHere 0x15 u c ≡ true → descriptor (stepped u c .unit) i ≡ marked CPUI (descriptor u i))
-    × (writesHere 0x16 u c ≡ true → descriptor (stepped u c .unit) i ≡ marked DMAI (descriptor u i))
+    → (writesHere 0x15 u c ≡ true → descriptor (stepped u c .unit) i ≡ withFlags CPUI (descriptor u i))
+    × (writesHere 0x16 u c ≡ true → descriptor (stepped u c .unit) i ≡ withFlags DMAI (descriptor u i))
 
 -- "A translated cycle with SUP off, not an aborted fetch"
 abbrev pub letThrough : Unit → Cycle → Bool

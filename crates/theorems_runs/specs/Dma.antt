@@ -52,7 +52,7 @@ DmaTrapNeeds = (TrapStays ByDma → ⊥) × (TrapStays NoReset → ⊥)
 -- two answers are the same but for the trap line
 pub record SameButTrap (x y : Answer) : Type 0 where
   pub kind : x .kind ≡ y .kind
-  pub lines : x .lines ≡ y .lines
+  pub address : x .address ≡ y .address
   pub sup : x .sup ≡ y .sup
   pub drives : x .drives ≡ y .drives
   pub byte : x .byte ≡ y .byte

@@ -8,9 +8,9 @@ use lib.Dec.{eqb}
 use Rattle.rules.specs.Bus.{write}
 use Rattle.rules.specs.Flags.{has}
 use Rattle.rules.specs.Masks.{RDV, SYSV, SLV, CPUIV, EXCV, PWW}
-use Rattle.rules.specs.PowerOn.{none}
+use Rattle.rules.specs.PowerOn.{faultsOf, blank}
 use Rattle.rules.specs.Runs.{units}
-use Rattle.rules.specs.Seen.{faults, noNote, unitOf}
+use Rattle.rules.specs.Seen.{noNote, unitHolding}
 use Rattle.rules.specs.Step.{stepped}
 use Rattle.rules.specs.declared.Cycle.{Cycle}
 use Rattle.rules.specs.declared.Registers.{Registers}
@@ -57,7 +57,7 @@ FlagNeeded = KeptFrom (λ r. true ≡ true) WipesNot → ⊥
 
 -- a unit with this VTR, all else as at power-on
 abbrev pub faultedBy : (vtr : ℕ) → Unit
-faultedBy vtr = unitOf 0 0 0 (faults vtr 0 0 0) 0 0 noNote 0 none
+faultedBy vtr = unitHolding 0 0 0 (faultsOf vtr 0 0 0) 0 0 noNote 0 blank
 
 -- CLAIM: each of the three does wipe it: a reset, a software reset, clear VTR. So none of them can be left out above.
 abbrev pub EachWipes : Type 0

@@ -6,7 +6,7 @@ use mathlib.Core.List.{List}
 use Prim.Native.Nat.{ℕ, _%_, _<_}
 use lib.Dec.{eqb}
 use lib.ListN.{length, getD}
-use Rattle.rules.specs.PowerOn.{none}
+use Rattle.rules.specs.PowerOn.{blank}
 use Rattle.rules.specs.Refusals.{damaged}
 use Rattle.rules.specs.Runs.{answers, units}
 use Rattle.rules.specs.Step.{place}
@@ -21,7 +21,7 @@ use Rattle.theorems_runs.specs.Undamaged.{Undamaged}
 
 -- the descriptors in the set are equal
 abbrev pub AlikeInside : (inside : ℕ → Bool) → Unit → Unit → Type 0
-AlikeInside inside a b = (i : ℕ) → i < 64 → inside i ≡ true → getD (a .table) i none ≡ getD (b .table) i none
+AlikeInside inside a b = (i : ℕ) → i < 64 → inside i ≡ true → getD (a .table) i blank ≡ getD (b .table) i blank
 
 -- "differ only in descriptors outside a set"
 pub record Alike (inside : ℕ → Bool) (a b : Unit) : Type 0 where

@@ -5,7 +5,8 @@ use mathlib.Core.Bool.{Bool, true, false, not, _&&_, _||_}
 use mathlib.Core.Option.{Option, none, some}
 use Prim.Native.Nat.{ℕ}
 use Rattle.rules.specs.Bus.{write}
-use Rattle.rules.specs.Refusals.{damaged, outOfRange, off}
+use Rattle.rules.specs.Refusals.{damaged, outOfRange}
+use Rattle.rules.specs.Answers.{off}
 use Rattle.rules.specs.Step.{stepped}
 use Rattle.rules.specs.declared.Cycle.{Cycle}
 use Rattle.rules.specs.declared.Kind.{Kind}
@@ -56,7 +57,7 @@ NumbersExactly = (u : Unit) (c : Cycle) → numberIn (stepped u c .answer .kind)
 -- "address and data not driven, SUP off, trap line as the request stood; unit unchanged"; "An address or data byte that isn't driven
 -- is marked so and has the value 0."
 pub record AsItStood (u : Unit) (s : Stepped) : Type 0 where
-  pub lines : s .answer .lines ≡ off
+  pub address : s .answer .address ≡ off
   pub sup : s .answer .sup ≡ false
   pub trap : s .answer .trap ≡ u .registers .notes .request
   pub drives : s .answer .drives ≡ false

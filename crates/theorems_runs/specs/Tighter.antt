@@ -7,7 +7,7 @@ use Prim.Native.Nat.{ℕ, _≤_, _<_}
 use lib.ListN.{getD}
 use Rattle.rules.specs.Flags.{has}
 use Rattle.rules.specs.Masks.{RD, SYS, CPUI, EXC, DMAI, DIRW}
-use Rattle.rules.specs.PowerOn.{none}
+use Rattle.rules.specs.PowerOn.{blank}
 use Rattle.rules.specs.Runs.{answers}
 use Rattle.rules.specs.Step.{stepped}
 use Rattle.rules.specs.declared.Answer.{Answer}
@@ -31,11 +31,11 @@ pub record Wider (x y : Descriptor) : Type 0 where
 -- b is a in all but its descriptors, and each of these is as wide as a's or wider
 pub record Loosened (a b : Unit) : Type 0 where
   pub registers : a .registers ≡ b .registers
-  pub table : (i : ℕ) → i < 64 → Wider (getD (a .table) i none) (getD (b .table) i none)
+  pub table : (i : ℕ) → i < 64 → Wider (getD (a .table) i blank) (getD (b .table) i blank)
 
 -- the answer x drives the address lines that y drives, and suppresses wherever y does
 pub record Covers (x y : Answer) : Type 0 where
-  pub lines : x .lines ≡ y .lines
+  pub address : x .address ≡ y .address
   pub sup : y .sup ⇒ x .sup
 
 -- where to stop: at an aborted fetch in either unit; in the first; nowhere

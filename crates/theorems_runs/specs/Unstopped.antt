@@ -40,7 +40,7 @@ ofAborted so a c = abortedFetch a c || so && not (endsHold a c)
 unfoldable pub CoversBut : (excepted : Bool → Unit → Cycle → Bool) → (so : Bool) → Unit → Unit → List Cycle → Type 0
 CoversBut excepted so a b [] = true ≡ true
 CoversBut excepted so a b (c ∷ cs) =
-    (stepped a c .answer .lines ≡ stepped b c .answer .lines)
+    (stepped a c .answer .address ≡ stepped b c .answer .address)
     × (excepted so a c ≡ false → stepped b c .answer .sup ⇒ stepped a c .answer .sup)
     × CoversBut excepted (excepted so a c) (stepped a c .unit) (stepped b c .unit) cs
 

@@ -6,7 +6,7 @@ use Prim.Native.Nat.{ℕ, suc, _+_, _*_, _<_}
 use native.Mathlib.Omega.{arith}
 use lib.ListN.{length, getD, set, take}
 use lib.Seq.{sets, take-suc, take-suc-set, length-take-le}
-use Rattle.rules.specs.PowerOn.{none}
+use Rattle.rules.specs.PowerOn.{blank}
 use Rattle.rules.specs.declared.Descriptor.{Descriptor}
 use Rattle.unit_stores.proofs.Laws.{sets-append}
 use Rattle.unit_bytes.specs.Snapshot.{descriptorIn, tableIn, descriptorBytes, tableBytes}
@@ -23,14 +23,14 @@ bytes-length (x ∷ t) = let h : length (tableBytes t) ≡ 4 * length t = bytes-
 
 -- one descriptor more is stored
 pub stored : (o : List ℕ) (t : List Descriptor) (i : ℕ) → i < length t
-    → sets (sets o 10 (tableBytes (take i t))) (10 + 4 * i) (descriptorBytes (getD t i none)) ≡ sets o 10 (tableBytes (take (suc i) t))
+    → sets (sets o 10 (tableBytes (take i t))) (10 + 4 * i) (descriptorBytes (getD t i blank)) ≡ sets o 10 (tableBytes (take (suc i) t))
 stored o t i h =
-    let d : Descriptor = getD t i none in
+    let d : Descriptor = getD t i blank in
     let first : List ℕ = tableBytes (take i t) in
     let long : length first ≡ 4 * i = bytes-length (take i t) ∙ ap (λ (k : ℕ). 4 * k) (length-take-le i t (omega arith)) in
     ap (λ (k : ℕ). sets (sets o 10 first) (10 + k) (descriptorBytes d)) (sym long)
     ∙ sets-append o 10 first (descriptorBytes d)
-    ∙ ap (sets o 10) (sym (ap tableBytes (take-suc t i none h) ∙ more-bytes (take i t) d))
+    ∙ ap (sets o 10) (sym (ap tableBytes (take-suc t i blank h) ∙ more-bytes (take i t) d))
 
 -- one descriptor more is read
 pub read : (l : List ℕ) (t : List Descriptor) (i : ℕ) → i < length t → take i t ≡ tableIn l i

@@ -8,7 +8,7 @@ use lib.ListN.{getD}
 use lib.Seq.{sets}
 use Rattle.unit_packed.specs.Packed.{packed}
 use Rattle.rules.specs.Kinds.{numberOf}
-use Rattle.rules.specs.Refusals.{refused}
+use Rattle.rules.specs.Answers.{refused}
 use Rattle.rules.specs.Step.{stepped}
 use Rattle.rules.specs.declared.Answer.{Answer}
 use Rattle.rules.specs.declared.Cycle.{Cycle}

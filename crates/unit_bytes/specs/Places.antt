@@ -7,7 +7,7 @@ use mathlib.Core.Path.{_≡_}
 use Prim.Native.Nat.{ℕ, _/_, _%_}
 use lib.Dec.{eqb}
 use lib.ListN.{length, getD, set, replicate}
-use Rattle.rules.specs.PowerOn.{none}
+use Rattle.rules.specs.PowerOn.{blank}
 use Rattle.rules.specs.declared.Descriptor.{Descriptor}
 use Rattle.rules.specs.declared.Notes.{Notes}
 use Rattle.rules.specs.declared.Unit.{Unit}
@@ -20,7 +20,7 @@ entry base limit attributes = record { base = base; limit = limit; attributes = 
 
 abbrev pub sample : Unit
 sample = record {
-  table = set (set (set (replicate 64 none) 0 (entry 0xA1A2 0xA3 0xA4)) 1 (entry 0xB1B2 0xB3 0xB4)) 63 (entry 0xC1C2 0xC3 0xC4);
+  table = set (set (set (replicate 64 blank) 0 (entry 0xA1A2 0xA3 0xA4)) 1 (entry 0xB1B2 0xB3 0xB4)) 63 (entry 0xC1C2 0xC3 0xC4);
   registers = record {
     control = record { mr = 0xD0; sar = 0x21; dscr = 0x02 };
     faults = record { vtr = 0x43; vsn = 0x24; voff = 0x85; bcsr = 0x36 };
@@ -42,16 +42,16 @@ row at byte field = record { at = at; byte = byte; field = field }
 
 -- the four bytes of the descriptor with a number: base (high byte first), limit, attributes
 abbrev high : ℕ → Unit → ℕ
-high n u = getD (u .table) n none .base / 256
+high n u = getD (u .table) n blank .base / 256
 
 abbrev low : ℕ → Unit → ℕ
-low n u = getD (u .table) n none .base % 256
+low n u = getD (u .table) n blank .base % 256
 
 abbrev limit : ℕ → Unit → ℕ
-limit n u = getD (u .table) n none .limit
+limit n u = getD (u .table) n blank .limit
 
 abbrev attributes : ℕ → Unit → ℕ
-attributes n u = getD (u .table) n none .attributes
+attributes n u = getD (u .table) n blank .attributes
 
 abbrev pub rows : List Row
 rows =

@@ -13,7 +13,7 @@ width = 6
 unfoldable pub flagsOf : Answer → ℕ
 flagsOf a =
     with (with (with
-    (flagIf (a .lines .driven) 1)
+    (flagIf (a .address .driven) 1)
     (flagIf (a .sup) 2))
     (flagIf (a .trap) 4))
     (flagIf (a .drives) 8)
@@ -21,7 +21,7 @@ flagsOf a =
 -- an answer in six bytes: the kind's letter, the number of a refusal, the address lines (high byte first), the flags, the data byte
 unfoldable pub packed : Answer → List ℕ
 packed a =
-    letterOf (a .kind) ∷ numberOf (a .kind) ∷ a .lines .block / 256 ∷ a .lines .block % 256 ∷ flagsOf a ∷ a .byte ∷ []
+    letterOf (a .kind) ∷ numberOf (a .kind) ∷ a .address .block / 256 ∷ a .address .block % 256 ∷ flagsOf a ∷ a .byte ∷ []
 
 -- answers one after another
 unfoldable pub bytesOf : List Answer → List ℕ

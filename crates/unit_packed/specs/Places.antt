@@ -21,7 +21,7 @@ row a letter number high low flags byte = record { answer = a; six = letter ∷ 
 abbrev said : Kind → (driven sup trap drives : Bool) → Answer
 said kind driven sup trap drives = record {
   kind = kind;
-  lines = record { driven = driven; block = 0x2326 };
+  address = record { driven = driven; block = 0x2326 };
   sup = sup;
   trap = trap;
   drives = drives;

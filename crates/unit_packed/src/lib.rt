@@ -22,7 +22,7 @@ pub const DRIVES: u8 = 8;
 fn flags_of(a: Answer) -> u8
     ensures { λ r. ⌜ r ≡ flagsOf a ⌝ }
 {
-    flag_if(a.lines.driven, ADDRESS)
+    flag_if(a.address.driven, ADDRESS)
         | flag_if(a.sup, SUP)
         | flag_if(a.trap, TRAP)
         | flag_if(a.drives, DRIVES)
@@ -37,7 +37,7 @@ pub fn put(out: &mut [u8], at: usize, a: Answer)
     let letter = rules_answers::letter(kind);
     let number = rules_answers::number(kind);
     let flags = flags_of(a);
-    let block = a.lines.block;
+    let block = a.address.block;
     out[at] = letter;
     out[at + 1] = number;
     out[at + 2] = (block / 256) as u8;

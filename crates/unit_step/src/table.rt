@@ -2,14 +2,14 @@
 ghost use mathlib.Core.Path.{_≡_};
 ghost use mathlib.Core.List.{map};
 ghost use Prim.Native.Nat.{_%_};
-ghost use Rattle.rules.specs.Step.{marked, changed};
+ghost use Rattle.rules.specs.Step.{withFlags, changed};
 use rules::Change;
 use rules::Descriptor;
 use rules::Unit;
 
 // Flags set in a descriptor.
-fn mark(d: Descriptor, mask: u8) -> Descriptor
-    ensures { λ r. ⌜ r ≡ marked mask d ⌝ }
+fn with_flags(d: Descriptor, mask: u8) -> Descriptor
+    ensures { λ r. ⌜ r ≡ withFlags mask d ⌝ }
 {
     Descriptor {
         base: d.base,
@@ -19,13 +19,16 @@ fn mark(d: Descriptor, mask: u8) -> Descriptor
 }
 
 // Flags set in every descriptor.
-pub fn mark_all(t: [Descriptor; Unit::DESCRIPTORS], mask: u8) -> [Descriptor; Unit::DESCRIPTORS]
-    ensures { λ r. ⌜ r ≡ map (marked mask) t ⌝ }
+pub fn with_flags_in_all(
+    t: [Descriptor; Unit::DESCRIPTORS],
+    mask: u8,
+) -> [Descriptor; Unit::DESCRIPTORS]
+    ensures { λ r. ⌜ r ≡ map (withFlags mask) t ⌝ }
 {
     let mut out = t;
     for i in 0..Unit::DESCRIPTORS {
         let d = out[i];
-        out[i] = mark(d, mask);
+        out[i] = with_flags(d, mask);
     }
     out
 }
@@ -46,6 +49,6 @@ pub fn changed(
             out[i] = d;
             out
         }
-        Change::Raise(mask) => mark_all(t, mask),
+        Change::Raise(mask) => with_flags_in_all(t, mask),
     }
 }

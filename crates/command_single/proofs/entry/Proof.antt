@@ -21,5 +21,5 @@ entry-spec =
       ← c .before .before .before .byte-of .ensures,
       ← c .before .before .with-control .ensures,
       ← c .before .written-by .ensures,
-      ← c .given .ensures,
+      ← c .replied .ensures,
     )))

@@ -15,5 +15,5 @@ programmed-spec =
     (λ c. simp (
       ← c .before .before .kept .ensures,
       ← c .before .with-control .ensures,
-      ← c .given .ensures,
+      ← c .replied .ensures,
     )))

@@ -1,11 +1,11 @@
 -- `command_single::restarted` meets its contract: what the calls ensure, put together. Assumes nothing.
-use Rattle.rules.specs.Commands.{restarted, controlled, cleared}
+use Rattle.rules.specs.Commands.{restarted}
 use borrow.Author.Needs.{needs}
 use Rattle.command_single.proofs.restarted.Statement.{statement}
 use Rattle.command_single.proofs.restarted.Tie as tie
 
 pub restarted-spec : {M : Type 1} → statement M
-unfolding restarted controlled cleared
+unfolding restarted
 restarted-spec =
     tie.close
     (tie.spec

@@ -17,7 +17,7 @@ memory-spec =
       c .before .if1 .taken,
       ← c .before .before .before .before .before .is-fetch .ensures,
       ← c .before .before .before .before .way-of .ensures,
-      ← c .before .before .before .lines-of .ensures,
+      ← c .before .before .before .address-of .ensures,
       ← c .aborted .ensures,
     ))
     (λ c κs. search needs)
@@ -26,7 +26,7 @@ memory-spec =
       c .before .before .if1 .left,
       ← c .before .before .before .before .before .before .is-fetch .ensures,
       ← c .before .before .before .before .before .way-of .ensures,
-      ← c .before .before .before .before .lines-of .ensures,
+      ← c .before .before .before .before .address-of .ensures,
       ← c .before .begun .ensures,
       ← c .through .ensures,
     )))

@@ -15,11 +15,15 @@ checked-spec =
     (λ c κs. search needs)
     (λ c κs. search needs)
     (λ c κs. search needs)
-    (λ c. simp (
-      ← c .before .before .before .before .before .before .before .before .before .event-of .ensures,
-      ← c .before .before .before .before .before .before .before .before .recorded .ensures,
-      ← c .before .before .before .before .before .is-fetch .ensures,
-      ← c .before .before .before .seen .ensures,
+    (λ c.
+    let answered = c .before .before .before in
+    let asked = answered .before .before in
+    let stored = asked .before .before .before in
+    simp (
+      ← stored .before .event-of .ensures,
+      ← stored .recorded .ensures,
+      ← asked .is-fetch .ensures,
+      ← answered .seen .ensures,
       ← c .before .noted .ensures,
       ← c .touched-by .ensures,
     )))

@@ -1,9 +1,9 @@
--- `rules_answers::plain` meets its contract: the code is the definition. Assumes nothing.
-use mathlib.Core.Path.{refl}
-use Rattle.rules.specs.Refusals.{plain}
+-- `rules_answers::plain` meets its contract: what the call ensures. Assumes nothing.
+use Rattle.rules.specs.Answers.{plain}
+use borrow.Author.Needs.{needs}
 use Rattle.rules_answers.proofs.plain.Statement.{statement}
 use Rattle.rules_answers.proofs.plain.Tie as tie
 
 pub plain-spec : {M : Type 1} → statement M
 unfolding plain
-plain-spec = tie.close (tie.spec (λ c. refl))
+plain-spec = tie.close (tie.spec (λ c κs. search needs) (λ c. simp (← c .spoken .ensures)))

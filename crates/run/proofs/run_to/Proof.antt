@@ -7,7 +7,7 @@ use native.Mathlib.Omega.{arith}
 use lib.ListN.{length, getD}
 use lib.Seq.{length-sets}
 use Rattle.unit_packed.specs.Packed.{packed, bytesOf}
-use Rattle.rules.specs.PowerOn.{none}
+use Rattle.rules.specs.PowerOn.{blank}
 use Rattle.rules.specs.Runs.{answers, final}
 use Rattle.rules.specs.Step.{decided, placeOf, changed, place, decision}
 use Rattle.rules.specs.declared.Change.{Change}
@@ -76,8 +76,8 @@ array-set-from-table c = search needs
 enum-known-h-2 : tie.Need-enum-known-h-2 Inv-loop μ-loop
 enum-known-h-2 c = search needs
 
-mark-all-requires : tie.Need-mark-all-requires Inv-loop μ-loop
-mark-all-requires c κs = search needs
+with-flags-in-all-requires : tie.Need-with-flags-in-all-requires Inv-loop μ-loop
+with-flags-in-all-requires c κs = search needs
 
 -- where the three arms of the match have come together: the turn's beginning, and what was decided in it
 abbrev Joined : Type 0
@@ -123,7 +123,7 @@ act-decides c =
     let r = begun c .loop .r in
     let x : Cycle = c .before .before .before .before .before .before .before .before .before .before .cycle-at .result in
     c .before .before .before .before .before .before .before .act .ensures
-    ∙ ap (λ (k : ℕ). decided r (getD (begun c .loop .table) (k % 64) none) x)
+    ∙ ap (λ (k : ℕ). decided r (getD (begun c .loop .table) (k % 64) blank) x)
     (c .before .before .before .before .before .before .before .before .before .place-of .ensures)
     ∙ ap (decision (was c)) (c .before .before .before .before .before .before .before .before .before .before .cycle-at .ensures)
 
@@ -180,7 +180,7 @@ run-to-spec =
     mul-table
     array-set-from-table
     enum-known-h-2
-    mark-all-requires
+    with-flags-in-all-requires
     add-n
     loop-less
     loop-again

@@ -22,9 +22,9 @@ returns c =
     let l : ℕ = c .before .before .letter .result in
     let n : ℕ = c .before .number .result in
     let f : ℕ = c .flags-of .result in
-    let h : (l ∷ n ∷ a .lines .block / 256 ∷ a .lines .block % 256 ∷ f ∷ a .byte ∷ []) ≡ packed a =
+    let h : (l ∷ n ∷ a .address .block / 256 ∷ a .address .block % 256 ∷ f ∷ a .byte ∷ []) ≡ packed a =
     simp (c .flags-of .ensures, c .before .number .ensures, c .before .before .letter .ensures) in
-    six o at l n (a .lines .block / 256) (a .lines .block % 256) f (a .byte) ∙ ap (sets o at) h
+    six o at l n (a .address .block / 256) (a .address .block % 256) f (a .byte) ∙ ap (sets o at) h
 
 pub put-spec : {M : Type 1} → statement M
 put-spec =

@@ -33,7 +33,7 @@ executed-spec =
       c .before .before .before .before .m .given .1,
       c .before .before .if1 .taken,
       ← c .before .register-of .ensures,
-      ← c .given .ensures,
+      ← c .replied .ensures,
     ))
     (λ c. simp (c .before .before .before .m .given .1, c .before .if1 .left, ← c .refused .ensures))
     (λ c. simp (c .before .before .m2 .given .1, ← c .entry .ensures))

@@ -7,7 +7,7 @@ use native.Mathlib.Omega.{arith}
 use lib.ListN.{length, getD, take}
 use lib.Seq.{sets, take-all, length-sets}
 use borrow.Author.Needs.{needs}
-use Rattle.rules.specs.PowerOn.{none}
+use Rattle.rules.specs.PowerOn.{blank}
 use Rattle.rules.specs.declared.Descriptor.{Descriptor}
 use Rattle.unit_bytes.specs.Snapshot.{descriptorBytes, tableBytes}
 use Rattle.unit_bytes.proofs.Tables.{stored}
@@ -32,7 +32,7 @@ loop-again c =
     let i : ℕ = at .loop .i in
     let o : List ℕ = start .out .now in
     let put = c .before .before .put-descriptor in
-    let d : Descriptor = getD (start .t2) i none in
+    let d : Descriptor = getD (start .t2) i blank in
     let same : length (put .last .0) ≡ length (at .loop .out) =
     ap length (put .ensures) ∙ length-sets (at .loop .out) (10 + 4 * i) (descriptorBytes d) in (
       put .ensures

@@ -18,4 +18,4 @@ changed-spec =
     (λ c κs. search needs)
     (λ c. simp (c .enum-told .given .1))
     (λ c. simp (c .before .h .given .1))
-    (λ c. simp (c .before .before .h2 .given .1, ← c .mark-all .ensures)))
+    (λ c. simp (c .before .before .h2 .given .1, ← c .with-flags-in-all .ensures)))

@@ -1,12 +1,12 @@
--- `memory_translation::lines_of` meets its contract: each answer follows from the tests on its way and what the calls ensure. Assumes nothing.
-use Rattle.rules.specs.Translation.{linesOf}
+-- `memory_translation::address_of` meets its contract: each answer follows from the tests on its way and what the calls ensure. Assumes nothing.
+use Rattle.rules.specs.Translation.{addressOf}
 use borrow.Author.Needs.{needs}
-use Rattle.memory_translation.proofs.lines_of.Statement.{statement}
-use Rattle.memory_translation.proofs.lines_of.Tie as tie
+use Rattle.memory_translation.proofs.address_of.Statement.{statement}
+use Rattle.memory_translation.proofs.address_of.Tie as tie
 
-pub lines-of-spec : {M : Type 1} → statement M
-unfolding linesOf
-lines-of-spec =
+pub address-of-spec : {M : Type 1} → statement M
+unfolding addressOf
+address-of-spec =
     tie.close
     (tie.spec
     (λ c. search needs)

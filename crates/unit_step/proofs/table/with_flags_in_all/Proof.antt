@@ -5,15 +5,15 @@ use native.Mathlib.Numerals.{add-one}
 use native.Mathlib.Omega.{arith}
 use lib.ListN.{length}
 use borrow.Author.Needs.{needs}
-use Rattle.rules.specs.PowerOn.{none}
-use Rattle.rules.specs.Step.{marked}
+use Rattle.rules.specs.PowerOn.{blank}
+use Rattle.rules.specs.Step.{withFlags}
 use Rattle.rules.specs.declared.Descriptor.{Descriptor}
 use Rattle.unit_step.proofs.Prefix.{upTo, upTo-suc, upTo-all}
-use Rattle.unit_step.proofs.table.mark_all.Statement.{statement}
-use Rattle.unit_step.proofs.table.mark_all.Tie as tie
+use Rattle.unit_step.proofs.table.with_flags_in_all.Statement.{statement}
+use Rattle.unit_step.proofs.table.with_flags_in_all.Tie as tie
 
 abbrev Inv-loop : tie.InvT-loop
-Inv-loop mask out₀ i₀ out i = (out ≡ upTo (marked mask) i out₀) × (i ≤ 64) × (length out₀ ≡ 64)
+Inv-loop mask out₀ i₀ out i = (out ≡ upTo (withFlags mask) i out₀) × (i ≤ 64) × (length out₀ ≡ 64)
 
 abbrev μ-loop : tie.MeasureT-loop
 μ-loop mask out₀ i₀ out i = 64 - i
@@ -27,8 +27,8 @@ mul-d c = search needs
 array-copy-out-d : tie.Need-array-copy-out-d Inv-loop μ-loop
 array-copy-out-d c = search needs
 
-mark-requires : tie.Need-mark-requires Inv-loop μ-loop
-mark-requires c κs = search needs
+with-flags-requires : tie.Need-with-flags-requires Inv-loop μ-loop
+with-flags-requires c κs = search needs
 
 mul-out : tie.Need-mul-out Inv-loop μ-loop
 mul-out c = search needs
@@ -45,8 +45,8 @@ loop-less c = search needs
 loop-again : tie.Need-loop-again Inv-loop μ-loop
 loop-again c =
     let at : tie.At-loop Inv-loop μ-loop = c .before .before .before in
-    let f : Descriptor → Descriptor = marked (at .before .args .mask) in (
-      simp (c .mark .ensures, at .loop .inv .0, add-one) (upTo-suc f (at .loop .i) (at .before .args .t) none (omega arith)),
+    let f : Descriptor → Descriptor = withFlags (at .before .args .mask) in (
+      simp (c .with-flags .ensures, at .loop .inv .0, add-one) (upTo-suc f (at .loop .i) (at .before .args .t) blank (omega arith)),
       search needs,
       search needs,
     )
@@ -54,10 +54,10 @@ loop-again c =
 returns : tie.Need-returns Inv-loop μ-loop
 returns c =
     let at : tie.At-loop Inv-loop μ-loop = c .before in
-    at .loop .inv .0 ∙ upTo-all (marked (at .before .args .mask)) (at .loop .i) (at .before .args .t) (omega arith)
+    at .loop .inv .0 ∙ upTo-all (withFlags (at .before .args .mask)) (at .loop .i) (at .before .args .t) (omega arith)
 
-pub mark-all-spec : {M : Type 1} → statement M
-mark-all-spec =
+pub with-flags-in-all-spec : {M : Type 1} → statement M
+with-flags-in-all-spec =
     tie.close
     (tie.spec
     Inv-loop
@@ -65,7 +65,7 @@ mark-all-spec =
     loop-holds
     mul-d
     array-copy-out-d
-    mark-requires
+    with-flags-requires
     mul-out
     array-set-from-out
     add-i

@@ -1,0 +1,22 @@
+-- The registers with some of them as said: the others stay.
+use Prim.Native.Nat.{ℕ}
+use Rattle.rules.specs.declared.Control.{Control}
+use Rattle.rules.specs.declared.Notes.{Notes}
+use Rattle.rules.specs.declared.Registers.{Registers}
+
+-- MR, SAR and DSCR; "Other commands leave notes alone."
+abbrev pub withControl : Registers → Control → Registers
+withControl r k = record { control = k; faults = r .faults; fetched = r .fetched; notes = r .notes }
+
+-- the VTR; "addresses stay"
+abbrev pub withVtr : Registers → (vtr : ℕ) → Registers
+withVtr r vtr = record {
+  control = r .control;
+  faults = record { vtr = vtr; vsn = r .faults .vsn; voff = r .faults .voff; bcsr = r .faults .bcsr };
+  fetched = r .fetched;
+  notes = r .notes;
+}
+
+-- the notes
+abbrev pub withNotes : Registers → Notes → Registers
+withNotes r n = record { control = r .control; faults = r .faults; fetched = r .fetched; notes = n }
