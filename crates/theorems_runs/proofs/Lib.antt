@@ -34,3 +34,4 @@ pub mod DescriptorsNeeded
 pub mod OthersNeeded
 pub mod Apart
 pub mod Exchange
+pub mod Refuted
