@@ -1,5 +1,6 @@
 -- The registers with some of them as said: the others stay.
 use Prim.Native.Nat.{ℕ}
+use Rattle.rules.specs.PowerOn.{faultsOf}
 use Rattle.rules.specs.declared.Control.{Control}
 use Rattle.rules.specs.declared.Notes.{Notes}
 use Rattle.rules.specs.declared.Registers.{Registers}
@@ -12,7 +13,7 @@ withControl r k = record { control = k; faults = r .faults; fetched = r .fetched
 abbrev pub withVtr : Registers → (vtr : ℕ) → Registers
 withVtr r vtr = record {
   control = r .control;
-  faults = record { vtr = vtr; vsn = r .faults .vsn; voff = r .faults .voff; bcsr = r .faults .bcsr };
+  faults = faultsOf vtr (r .faults .vsn) (r .faults .voff) (r .faults .bcsr);
   fetched = r .fetched;
   notes = r .notes;
 }

@@ -7,7 +7,7 @@ use Prim.Native.Nat.{ℕ, zero, suc, _<_}
 use lib.Dec.{lit≤}
 use lib.ListN.{getD, replicate}
 use Rattle.rules.specs.Masks.{RD, CPUI}
-use Rattle.rules.specs.PowerOn.{blank, powerOn}
+use Rattle.rules.specs.PowerOn.{faultsOf, notesOf, unitOf, blank}
 use Rattle.rules.specs.Refusals.{damaged}
 use Rattle.rules.specs.Seen.{segment}
 use Rattle.rules.specs.declared.Descriptor.{Descriptor}
@@ -17,20 +17,13 @@ use Rattle.theorems_runs.specs.Undamaged.{Undamaged}
 use Rattle.theorems_runs.proofs.Wider.{wider-refl}
 
 -- MR, SAR, DSCR, hold and the descriptors of segments 0 to 2, all else as at power-on
-abbrev pub unitOf : (mr sar dscr : ℕ) → (hold : Bool) → (x y z : Descriptor) → Unit
-unitOf mr sar dscr hold x y z = record {
-  table = x ∷ y ∷ z ∷ replicate 61 blank;
-  registers = record {
-    control = record { mr = mr; sar = sar; dscr = dscr };
-    faults = powerOn .registers .faults;
-    fetched = powerOn .registers .fetched;
-    notes = record { request = false; awaits = false; own = false; hold = hold };
-  };
-}
+abbrev pub unitOfThree : (mr sar dscr : ℕ) → (hold : Bool) → (x y z : Descriptor) → Unit
+unitOfThree mr sar dscr hold x y z =
+    unitOf (x ∷ y ∷ z ∷ replicate 61 blank) mr sar dscr (faultsOf 0 0 0 0) 0 0 (notesOf false false false hold)
 
 -- the descriptors of segments 0 to 2, MR %C0 (MSEN and TRNS set)
 abbrev pub unit : (x y z : Descriptor) → Unit
-unit x y z = unitOf 0xC0 0 0 false x y z
+unit x y z = unitOfThree 0xC0 0 0 false x y z
 
 pub unit-undamaged : (x y z : Descriptor) → Undamaged (unit x y z)
 unfolding damaged

@@ -19,7 +19,7 @@ use Rattle.theorems_runs.specs.Tighter.{Wider, before}
 use Rattle.theorems_runs.specs.Undamaged.{Undamaged}
 use Rattle.theorems_runs.specs.Unstopped.{CoversBut, InstructionExcepted, NarrowedNeeds, PutBackNeeded}
 use Rattle.theorems_runs.proofs.Computed.{computed}
-use Rattle.theorems_runs.proofs.Examples.{unitOf, unit, unit-undamaged, wider-entries, readOnly, writable, closed, writable-wider}
+use Rattle.theorems_runs.proofs.Examples.{unitOfThree, unit, unit-undamaged, wider-entries, readOnly, writable, closed, writable-wider}
 use Rattle.theorems_runs.proofs.Tighter.{narrower-kept}
 use Rattle.theorems_runs.proofs.Wider.{wider-refl}
 
@@ -29,7 +29,7 @@ dataWrite = cycle false false false 8 0 0
 
 -- MR and hold, all else as at power-on
 held : (mr : ℕ) → (hold : Bool) → Unit
-held mr hold = unitOf mr 0 0 hold blank blank blank
+held mr hold = unitOfThree mr 0 0 hold blank blank blank
 
 held-undamaged : (mr : ℕ) (hold : Bool) → Undamaged (held mr hold)
 unfolding held computed
@@ -54,7 +54,7 @@ mr-needed claim =
 
 -- MR %80: SAR 64 makes the one unit or the other refuse it, and no address is driven there
 broken : Unit
-broken = unitOf 0x80 64 0 false blank blank blank
+broken = unitOfThree 0x80 64 0 false blank blank blank
 
 pub undamaged-needed : UndamagedNeeded
 unfolding dataWrite held broken before AlongBoth computed
@@ -83,7 +83,7 @@ high : Descriptor
 high = segment 0xFFF0 0x00 0
 
 at-sar : (sar : ℕ) → Unit
-at-sar sar = unitOf 0xE0 sar 0 false blank blank high
+at-sar sar = unitOfThree 0xE0 sar 0 false blank blank high
 
 pub sar-needed : SarNeeded
 unfolding high at-sar before AlongBoth computed
@@ -104,7 +104,7 @@ sar-needed claim =
 
 -- DSCR 0 and 3, MR %C0: %0B writes %01 to the base in the first unit and to the attributes in the second. Records 83000B01 18000000
 at-byte : (dscr : ℕ) → Unit
-at-byte dscr = unitOf 0xC0 0 dscr false blank blank blank
+at-byte dscr = unitOfThree 0xC0 0 dscr false blank blank blank
 
 pub dscr-needed : DscrNeeded
 unfolding at-byte before AlongBoth computed
@@ -129,7 +129,7 @@ ending : (limit : ℕ) → Descriptor
 ending limit = segment 0 limit 0
 
 turning : (limit : ℕ) → Unit
-turning limit = unitOf 0xC0 2 3 false blank blank (ending limit)
+turning limit = unitOfThree 0xC0 2 3 false blank blank (ending limit)
 
 one-wider : Wider (ending 0x00) (ending 0x01)
 unfolding ending
@@ -165,7 +165,7 @@ turns-excluded claim =
 -- aborted in the first unit and suppressed in the second, and so is the read after it, of a segment that is open in both. MR %C0; records
 -- 08010000 1D020000 18000000
 fenced : Descriptor → Unit
-fenced d = unitOf 0xC0 0 0 false blank d closed
+fenced d = unitOfThree 0xC0 0 0 false blank d closed
 
 fenced-narrower : Narrower (fenced readOnly) (fenced writable)
 unfolding fenced computed

@@ -9,14 +9,14 @@ use lib.Dec.{eqb, lit≤}
 use lib.ListN.{getD, replicate, getD-replicate}
 use Rattle.rules.specs.Flags.{has, lacks}
 use Rattle.rules.specs.Masks.{RD, SYS, CPUI, EXC, DMAI, DIRW, PRIMARY}
-use Rattle.rules.specs.PowerOn.{none, powerOn}
+use Rattle.rules.specs.PowerOn.{blank, powerOn}
 use Rattle.rules.specs.Refusals.{orphan, damaged}
 use Rattle.rules.specs.Runs.{answers, final}
 use Rattle.rules.specs.Seen.{segment, cycle, command, selected}
 use Rattle.rules.specs.declared.Answer.{Answer}
 use Rattle.rules.specs.declared.Cycle.{Cycle}
 use Rattle.rules.specs.declared.Descriptor.{Descriptor}
-use Rattle.rules.specs.declared.Lines.{Lines}
+use Rattle.rules.specs.declared.Address.{Address}
 use Rattle.rules.specs.declared.Unit.{Unit}
 use Rattle.theorems_runs.specs.Cycles.{meetsConditions, descriptorRead}
 use Rattle.theorems_runs.specs.Exchange.{Exchange, FirstAlone}
@@ -87,7 +87,7 @@ CoversWhere Wide =
     → Undamaged a
     → Undamaged b
     → a .registers ≡ b .registers
-    → ((i : ℕ) → i < 64 → Wide (getD (a .table) i none) (getD (b .table) i none))
+    → ((i : ℕ) → i < 64 → Wide (getD (a .table) i blank) (getD (b .table) i blank))
     → Every NoDescriptorWrite cs
     → Both Covers (answers a (before inEither a b cs)) (answers b (before inEither a b cs))
 
@@ -103,7 +103,7 @@ right-covers a b cs u v r t f =
 
 -- 64 descriptors that are the same, MR %C0
 abbrev evenly : Descriptor → Unit
-evenly d = record { table = replicate 64 d; registers = unit none none none .registers }
+evenly d = record { table = replicate 64 d; registers = unit blank blank blank .registers }
 
 -- what such a claim says of one cycle
 covered : (Wide : Descriptor → Descriptor → Type 0) → CoversWhere Wide → (x y : Descriptor) (c : Cycle) → Wide x y → NoDescriptorWrite c
@@ -112,7 +112,7 @@ covered : (Wide : Descriptor → Descriptor → Type 0) → CoversWhere Wide →
 unfolding damaged
 covered Wide claim x y c w f =
     claim (evenly x) (evenly y) (c ∷ []) (record { size = refl; sound = refl }) (record { size = refl; sound = refl }) refl
-    (λ i s. rw (getD-replicate 64 i x none s, getD-replicate 64 i y none s) w) (f, refl)
+    (λ i s. rw (getD-replicate 64 i x blank s, getD-replicate 64 i y blank s) w) (f, refl)
 
 abbrev readAt : (offset : ℕ) → Cycle
 readAt offset = cycle false true false 8 0 offset
@@ -129,9 +129,9 @@ wider-needed = (
   right-covers,
   λ claim.
       true≢false
-      (ap (λ (l : Lines). eqb (l .block) 0)
+      (ap (λ (l : Address). eqb (l .block) 0)
       (covered Rebased claim (segment 0 0xFF 0) (segment 0x1000 0xFF 0) (readAt 0)
-      (refl, refl, unflagged, λ e. lit≤ tt, λ e. lit≤ tt) refl .0 .lines)),
+      (refl, refl, unflagged, λ e. lit≤ tt, λ e. lit≤ tt) refl .0 .address)),
   λ claim.
       false≢true
       (covered Redirected claim (segment 0 0 0) (segment 0 1 DIRW) (readAt 0)
@@ -158,15 +158,15 @@ wider-needed = (
 
 -- two units that differ in segment 0, its base and its limit
 abbrev left : Unit
-left = unit (segment 0x1000 0x10 0) none none
+left = unit (segment 0x1000 0x10 0) blank blank
 
 abbrev right : Unit
-right = unit (segment 0x2000 0x20 0) none none
+right = unit (segment 0x2000 0x20 0) blank blank
 
 -- "differ only in descriptors outside a set" turned: equal outside the set, where no cycle looks
 abbrev AlikeOutside : (inside : ℕ → Bool) → Unit → Unit → Type 0
 AlikeOutside inside a b =
-    (a .registers ≡ b .registers) × ((i : ℕ) → i < 64 → inside i ≡ false → getD (a .table) i none ≡ getD (b .table) i none)
+    (a .registers ≡ b .registers) × ((i : ℕ) → i < 64 → inside i ≡ false → getD (a .table) i blank ≡ getD (b .table) i blank)
 
 -- all segments are in the set: a read of segment 0 drives another block
 pub set-turned :
@@ -176,7 +176,7 @@ pub set-turned :
 unfolding Along computed
 set-turned claim =
     true≢false
-    (ap (all (λ (x : Answer). eqb (x .lines .block) 0x1000))
+    (ap (all (λ (x : Answer). eqb (x .address .block) 0x1000))
     (claim (λ i. true) left right (readAt 0 ∷ []) (unit-undamaged _ _ _) (unit-undamaged _ _ _) (refl, λ i low e. absurd (true≢false e))
     ((λ e. refl, refl), refl)))
 
@@ -193,7 +193,7 @@ segment-for-sar claim =
     (claim (λ i. not (eqb i 0)) left right (selected false 3 1 0x09 ∷ []) refl refl (record { registers = refl; table = entries })
     (λ e. refl, refl) .0))
   where
-    entries : (i : ℕ) → i < 64 → not (eqb i 0) ≡ true → getD (left .table) i none ≡ getD (right .table) i none
+    entries : (i : ℕ) → i < 64 → not (eqb i 0) ≡ true → getD (left .table) i blank ≡ getD (right .table) i blank
     entries zero low e = absurd (false≢true e)
     entries (suc i) low e = refl
 
@@ -204,7 +204,7 @@ pub voff-no-vtr : ((cs : List Cycle) → orphan (final powerOn cs .registers .fa
 unfolding computed
 voff-no-vtr claim = true≢false (claim (command false 0x00 0xC0 ∷ readAt 0x40 ∷ []))
 
--- `ZeroExactly` past a byte: 256 has none of the flags
+-- `ZeroExactly` past a byte: 256 has blank of the flags
 pub byte-needed : ((vtr : ℕ) → vtr ≤ 256 → orphan vtr ≡ false → lacks vtr PRIMARY ≡ eqb vtr 0) → ⊥
 byte-needed claim = true≢false (claim 256 (lit≤ tt) refl)
 

@@ -15,11 +15,16 @@ entry-spec =
     (λ c κs. search needs)
     (λ c κs. search needs)
     (λ c κs. search needs)
-    (λ c. simp (
-      ← c .before .before .before .before .before .index-of .ensures,
-      ← c .before .before .before .before .moved .ensures,
-      ← c .before .before .before .byte-of .ensures,
-      ← c .before .before .with-control .ensures,
+    (λ c.
+    let kept = c .before .before in
+    let shown = kept .before in
+    let stepped = shown .before in
+    let indexed = stepped .before in
+    simp (
+      ← indexed .index-of .ensures,
+      ← stepped .moved .ensures,
+      ← shown .byte-of .ensures,
+      ← kept .with-control .ensures,
       ← c .before .written-by .ensures,
       ← c .replied .ensures,
     )))

@@ -13,20 +13,29 @@ memory-spec =
     (λ c κs. search needs)
     (λ c κs. search needs)
     (λ c κs. search needs)
-    (λ c. simp (
+    (λ c.
+    let addressed = c .before .before .before in
+    let gone = addressed .before in
+    let fetched = gone .before in
+    simp (
       c .before .if1 .taken,
-      ← c .before .before .before .before .before .is-fetch .ensures,
-      ← c .before .before .before .before .way-of .ensures,
-      ← c .before .before .before .address-of .ensures,
+      ← fetched .is-fetch .ensures,
+      ← gone .way-of .ensures,
+      ← addressed .address-of .ensures,
       ← c .aborted .ensures,
     ))
     (λ c κs. search needs)
     (λ c κs. search needs)
-    (λ c. simp (
-      c .before .before .if1 .left,
-      ← c .before .before .before .before .before .before .is-fetch .ensures,
-      ← c .before .before .before .before .before .way-of .ensures,
-      ← c .before .before .before .before .address-of .ensures,
+    (λ c.
+    let aborts = c .before .before in
+    let addressed = aborts .before .before in
+    let gone = addressed .before in
+    let fetched = gone .before in
+    simp (
+      aborts .if1 .left,
+      ← fetched .is-fetch .ensures,
+      ← gone .way-of .ensures,
+      ← addressed .address-of .ensures,
       ← c .before .begun .ensures,
       ← c .through .ensures,
     )))

@@ -11,19 +11,29 @@ warns-spec =
     (λ c. simp (c .if1 .taken))
     (λ c. simp (c .if2 .taken, c .before .if1 .left))
     (λ c. simp (c .if3 .taken, c .before .if2 .left, c .before .before .if1 .left))
-    (λ c. simp (
+    (λ c.
+    let down = c .before .before .before in
+    let violation = down .before .before in
+    let read = violation .before in
+    let dma = read .before in
+    simp (
       c .if5 .taken,
-      c .before .before .before .if4 .taken,
-      c .before .before .before .before .before .if3 .left,
-      c .before .before .before .before .before .before .if2 .left,
-      c .before .before .before .before .before .before .before .if1 .left,
+      down .if4 .taken,
+      violation .if3 .left,
+      read .if2 .left,
+      dma .if1 .left,
     ))
-    (λ c. simp (
+    (λ c.
+    let down = c .before .before .before in
+    let violation = down .before .before in
+    let read = violation .before in
+    let dma = read .before in
+    simp (
       c .if5 .left,
-      c .before .before .before .if4 .taken,
-      c .before .before .before .before .before .if3 .left,
-      c .before .before .before .before .before .before .if2 .left,
-      c .before .before .before .before .before .before .before .if1 .left,
+      down .if4 .taken,
+      violation .if3 .left,
+      read .if2 .left,
+      dma .if1 .left,
     ))
     (λ c. simp (
       c .if4 .left,

@@ -19,27 +19,41 @@ recorded-spec =
       c .before .before .before .before .if1 .left,
       ← c .added .ensures,
     ))
-    (λ c. simp (
+    (λ c.
+    let stack = c .before .before in
+    let own = stack .before .before .before in
+    let first = own .before in
+    let nothing = first .before .before in
+    simp (
       c .if5 .taken,
-      c .before .before .if4 .taken,
-      c .before .before .before .before .before .if3 .left,
-      c .before .before .before .before .before .before .if2 .left,
-      c .before .before .before .before .before .before .before .before .if1 .left,
+      stack .if4 .taken,
+      own .if3 .left,
+      first .if2 .left,
+      nothing .if1 .left,
     ))
     (λ c κs. search needs)
-    (λ c. simp (
+    (λ c.
+    let stack = c .before .before .before in
+    let own = stack .before .before .before in
+    let first = own .before in
+    let nothing = first .before .before in
+    simp (
       c .before .if5 .left,
-      c .before .before .before .if4 .taken,
-      c .before .before .before .before .before .before .if3 .left,
-      c .before .before .before .before .before .before .before .if2 .left,
-      c .before .before .before .before .before .before .before .before .before .if1 .left,
+      stack .if4 .taken,
+      own .if3 .left,
+      first .if2 .left,
+      nothing .if1 .left,
       ← c .raised .ensures,
     ))
     (λ c κs. search needs)
-    (λ c. simp (
+    (λ c.
+    let own = c .before .before .before .before in
+    let first = own .before in
+    let nothing = first .before .before in
+    simp (
       c .before .if4 .left,
-      c .before .before .before .before .if3 .left,
-      c .before .before .before .before .before .if2 .left,
-      c .before .before .before .before .before .before .before .if1 .left,
+      own .if3 .left,
+      first .if2 .left,
+      nothing .if1 .left,
       ← c .raised2 .ensures,
     )))

@@ -17,10 +17,15 @@ rights-of-spec =
     (λ c κs. search needs)
     (λ c κs. search needs)
     (λ c κs. search needs)
-    (λ c. simp (
-      ← c .before .before .before .before .before .before .before .flag-if .ensures,
-      ← c .before .before .before .before .before .flag-if2 .ensures,
-      ← c .before .before .before .flag-if3 .ensures,
-      ← c .before .before .flag-if4 .ensures,
+    (λ c.
+    let exc = c .before .before in
+    let cpui = exc .before in
+    let sys = cpui .before .before in
+    let rd = sys .before .before in
+    simp (
+      ← rd .flag-if .ensures,
+      ← sys .flag-if2 .ensures,
+      ← cpui .flag-if3 .ensures,
+      ← exc .flag-if4 .ensures,
       ← c .flag-if5 .ensures,
     )))

@@ -16,18 +16,28 @@ way-of-spec =
       c .before .before .before .if2 .left,
       c .before .before .before .before .if1 .left,
     ))
-    (λ c. simp (
+    (λ c.
+    let either = c .before .before in
+    let half = either .before in
+    let passing = half .before .before in
+    let disabled = passing .before in
+    simp (
       c .if5 .taken,
-      c .before .before .if4 .left,
-      c .before .before .before .if3 .taken,
-      c .before .before .before .before .before .if2 .left,
-      c .before .before .before .before .before .before .if1 .left,
+      either .if4 .left,
+      half .if3 .taken,
+      passing .if2 .left,
+      disabled .if1 .left,
     ))
-    (λ c. simp (
+    (λ c.
+    let either = c .before .before in
+    let half = either .before in
+    let passing = half .before .before in
+    let disabled = passing .before in
+    simp (
       c .if5 .left,
-      c .before .before .if4 .left,
-      c .before .before .before .if3 .taken,
-      c .before .before .before .before .before .if2 .left,
-      c .before .before .before .before .before .before .if1 .left,
+      either .if4 .left,
+      half .if3 .taken,
+      passing .if2 .left,
+      disabled .if1 .left,
     ))
     (λ c. simp (c .if3 .left, c .before .before .if2 .left, c .before .before .before .if1 .left)))

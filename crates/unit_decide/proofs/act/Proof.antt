@@ -22,20 +22,30 @@ act-spec =
       ← c .refused2 .ensures,
     ))
     (λ c κs. search needs)
-    (λ c. simp (
+    (λ c.
+    let outside = c .before .before in
+    let ranged = outside .before in
+    let broken = ranged .before in
+    let looked = broken .before in
+    simp (
       c .before .if3 .taken,
-      c .before .before .if2 .left,
-      c .before .before .before .before .if1 .left,
-      ← c .before .before .before .before .before .damaged .ensures,
-      ← c .before .before .before .out-of-range .ensures,
+      outside .if2 .left,
+      broken .if1 .left,
+      ← looked .damaged .ensures,
+      ← ranged .out-of-range .ensures,
       ← c .reset-by .ensures,
     ))
     (λ c κs. search needs)
-    (λ c. simp (
+    (λ c.
+    let outside = c .before .before in
+    let ranged = outside .before in
+    let broken = ranged .before in
+    let looked = broken .before in
+    simp (
       c .before .if3 .left,
-      c .before .before .if2 .left,
-      c .before .before .before .before .if1 .left,
-      ← c .before .before .before .before .before .damaged .ensures,
-      ← c .before .before .before .out-of-range .ensures,
+      outside .if2 .left,
+      broken .if1 .left,
+      ← looked .damaged .ensures,
+      ← ranged .out-of-range .ensures,
       ← c .by-status .ensures,
     )))

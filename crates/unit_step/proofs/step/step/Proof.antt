@@ -15,8 +15,11 @@ step-spec =
     (λ c. search needs)
     (λ c κs. search needs)
     (λ c κs. search needs)
-    (λ c. simp (
-      ← c .before .before .before .before .before .place-of .ensures,
-      ← c .before .before .before .act .ensures,
+    (λ c.
+    let decided = c .before .before .before in
+    let placed = decided .before .before in
+    simp (
+      ← placed .place-of .ensures,
+      ← decided .act .ensures,
       ← c .changed .ensures,
     )))
