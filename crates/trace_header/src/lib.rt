@@ -1,8 +1,10 @@
 // The header of a trace, and the numbers that refuse a trace. No public call asks anything of the trace that it is lent.
 ghost use mathlib.Core.Path.{_≡_};
-ghost use Prim.Native.Nat.{_<_, _≤_};
+ghost use Prim.Native.Nat.{_<_};
 ghost use lib.ListN.{getD};
-ghost use Rattle.trace_header.specs.Header.{marked, pair, countOf, refusalOf};
+ghost use Rattle.unit_stores.specs.Word.{wordValues, wordAt};
+ghost use Rattle.trace_header.specs.Header.{headSize, marked, countOf, refusalOf};
+use unit_stores::word;
 
 // The mark that a trace opens with.
 pub const MARK: [u8; 3] = *b"MBT";
@@ -13,7 +15,11 @@ pub const VERSION: usize = 1;
 // The most records that a trace may have.
 pub const MOST: usize = 16000;
 
-// The bytes of the header, and those of a record.
+// Where the version and the record count stand, the bytes of the header, and those of a record.
+const VERSION_AT: usize = 3;
+
+const COUNT_AT: usize = 5;
+
 pub const HEAD: usize = 7;
 
 pub const RECORD: usize = 4;
@@ -25,14 +31,14 @@ pub fn byte_at(bytes: &[u8], at: usize) -> u8
     if at < bytes.len() { bytes[at] } else { 0 }
 }
 
-// 16 bits, high byte first.
-fn pair_at(bytes: &[u8], at: usize) -> usize
-    requires { ⌜ at < 7 ⌝ }
-    ensures { λ n. ⌜ (n ≡ pair (now (bytes .entry)) at) × (n ≤ 65535) ⌝ }
+// 16 bits of the header, high byte first.
+fn word_at(bytes: &[u8], at: usize) -> usize
+    requires { ⌜ at < headSize ⌝ }
+    ensures { λ n. ⌜ (n ≡ wordAt (now (bytes .entry)) at) × (n < wordValues) ⌝ }
 {
     let high = byte_at(bytes, at);
     let low = byte_at(bytes, at + 1);
-    (high as usize) * 256 + low as usize
+    word(high, low) as usize
 }
 
 // The trace opens with the mark.
@@ -44,9 +50,9 @@ fn marked(trace: &[u8]) -> bool
 
 // The record count that the header states.
 pub fn stated(trace: &[u8]) -> usize
-    ensures { λ n. ⌜ (n ≡ countOf (now (trace .entry))) × (n ≤ 65535) ⌝ }
+    ensures { λ n. ⌜ (n ≡ countOf (now (trace .entry))) × (n < wordValues) ⌝ }
 {
-    pair_at(trace, 5)
+    word_at(trace, COUNT_AT)
 }
 
 // The number that refuses the trace, 5 to 8, or 0.
@@ -61,7 +67,7 @@ pub fn refusal(trace: &[u8]) -> u8
     if unmarked {
         return 5;
     }
-    let other = pair_at(trace, 3) != VERSION;
+    let other = word_at(trace, VERSION_AT) != VERSION;
     if other {
         return 6;
     }

@@ -1,11 +1,70 @@
 -- `trace_header::refusal` meets its contract: each answer follows from the tests on its way and what the calls ensure. Assumes nothing.
-use Rattle.trace_header.specs.Header.{refusalOf}
+use Rattle.trace_header.specs.Header.{refusalIn}
 use borrow.Author.Needs.{needs}
 use Rattle.trace_header.proofs.refusal.Statement.{statement}
 use Rattle.trace_header.proofs.refusal.Tie as tie
 
+-- The places on the way: the mark was looked at, the version was read, the count was read.
+
+returns-3 : tie.Need-returns-3
+unfolding refusalIn
+returns-3 c =
+    let version = c .before in
+    let mark = version .before .before in
+    simp (c .if3 .taken, version .before .if2 .left, mark .before .if1 .left, ← mark .marked .ensures, ← version .word-at .ensures .0)
+
+returns-4 : tie.Need-returns-4
+unfolding refusalIn
+returns-4 c =
+    let count = c .before in
+    let version = count .before .before in
+    let mark = version .before .before in
+    simp (
+      c .if4 .taken,
+      count .before .if3 .left,
+      version .before .if2 .left,
+      mark .before .if1 .left,
+      ← mark .marked .ensures,
+      ← version .word-at .ensures .0,
+      ← count .stated .ensures .0,
+    )
+
+returns-5 : tie.Need-returns-5
+unfolding refusalIn
+returns-5 c =
+    let count = c .before .before in
+    let version = count .before .before in
+    let mark = version .before .before in
+    simp (
+      c .if5 .taken,
+      c .before .if4 .left,
+      count .before .if3 .left,
+      version .before .if2 .left,
+      mark .before .if1 .left,
+      ← mark .marked .ensures,
+      ← version .word-at .ensures .0,
+      ← count .stated .ensures .0,
+    )
+
+returns-6 : tie.Need-returns-6
+unfolding refusalIn
+returns-6 c =
+    let count = c .before .before in
+    let version = count .before .before in
+    let mark = version .before .before in
+    simp (
+      c .if5 .left,
+      c .before .if4 .left,
+      count .before .if3 .left,
+      version .before .if2 .left,
+      mark .before .if1 .left,
+      ← mark .marked .ensures,
+      ← version .word-at .ensures .0,
+      ← count .stated .ensures .0,
+    )
+
 pub refusal-spec : {M : Type 1} → statement M
-unfolding refusalOf
+unfolding refusalIn
 refusal-spec =
     tie.close
     (tie.spec
@@ -13,42 +72,10 @@ refusal-spec =
     (λ c κs. search needs)
     (λ c. simp (c .if2 .taken, c .before .before .if1 .left, ← c .before .marked .ensures))
     (λ c κs. search needs)
-    (λ c. simp (
-      c .if3 .taken,
-      c .before .before .if2 .left,
-      c .before .before .before .before .if1 .left,
-      ← c .before .before .before .marked .ensures,
-      ← c .before .pair-at .ensures .0,
-    ))
+    returns-3
     (λ c κs. search needs)
-    (λ c. simp (
-      c .if4 .taken,
-      c .before .before .if3 .left,
-      c .before .before .before .before .if2 .left,
-      c .before .before .before .before .before .before .if1 .left,
-      ← c .before .before .before .before .before .marked .ensures,
-      ← c .before .before .before .pair-at .ensures .0,
-      ← c .before .stated .ensures .0,
-    ))
+    returns-4
     (λ c. search needs)
     (λ c. search needs)
-    (λ c. simp (
-      c .if5 .taken,
-      c .before .if4 .left,
-      c .before .before .before .if3 .left,
-      c .before .before .before .before .before .if2 .left,
-      c .before .before .before .before .before .before .before .if1 .left,
-      ← c .before .before .before .before .before .before .marked .ensures,
-      ← c .before .before .before .before .pair-at .ensures .0,
-      ← c .before .before .stated .ensures .0,
-    ))
-    (λ c. simp (
-      c .if5 .left,
-      c .before .if4 .left,
-      c .before .before .before .if3 .left,
-      c .before .before .before .before .before .if2 .left,
-      c .before .before .before .before .before .before .before .if1 .left,
-      ← c .before .before .before .before .before .before .marked .ensures,
-      ← c .before .before .before .before .pair-at .ensures .0,
-      ← c .before .before .stated .ensures .0,
-    )))
+    returns-5
+    returns-6)
