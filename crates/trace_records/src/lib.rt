@@ -9,7 +9,16 @@ use trace_header::byte_at;
 use trace_header::refusal;
 use trace_header::stated;
 
-// The bits of a record's first byte above those of BCSR, and the reset line in its second.
+// The bytes of a record: one with the bits of BCSR, the segment, the byte of the address phase, and the data byte.
+const STATUS_AT: usize = 0;
+
+const SEGMENT_AT: usize = 1;
+
+const OFFSET_AT: usize = 2;
+
+const DATA_AT: usize = 3;
+
+// The bits of its first byte above those of BCSR, and the reset line in its second.
 pub const DMA: u8 = 64;
 
 pub const SELECT: u8 = 128;
@@ -53,10 +62,10 @@ pub fn part(trace: &[u8], n: usize) -> &[u8]
 pub fn decode(part: &[u8]) -> Cycle
     ensures { λ c. ⌜ c ≡ cycleOf (now (part .entry)) ⌝ }
 {
-    let b0 = byte_at(part, 0);
-    let b1 = byte_at(part, 1);
-    let b2 = byte_at(part, 2);
-    let b3 = byte_at(part, 3);
+    let b0 = byte_at(part, STATUS_AT);
+    let b1 = byte_at(part, SEGMENT_AT);
+    let b2 = byte_at(part, OFFSET_AT);
+    let b3 = byte_at(part, DATA_AT);
     Cycle {
         status: b0 % Unit::STATUSES,
         read: b0 & Unit::READ != 0,

@@ -1,11 +1,11 @@
 -- `trace_records::count` meets its contract: each answer follows from the tests on its way and what the calls ensure. Assumes nothing.
-use Rattle.trace_records.specs.Trace.{givenOf}
+use Rattle.trace_records.specs.Trace.{givenIn}
 use borrow.Author.Needs.{needs}
 use Rattle.trace_records.proofs.count.Statement.{statement}
 use Rattle.trace_records.proofs.count.Tie as tie
 
 pub count-spec : {M : Type 1} → statement M
-unfolding givenOf
+unfolding givenIn
 count-spec =
     tie.close
     (tie.spec

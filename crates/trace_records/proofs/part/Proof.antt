@@ -1,24 +1,25 @@
 -- `trace_records::part` meets its contract: a record that is not refused lies within the trace. Assumes nothing.
 use mathlib.Core.Path.{_≡_, sym, ap, _∙_}
 use mathlib.Core.Bool.{Bool}
-use Prim.Native.Nat.{ℕ, _+_, _*_, _<_, _≤_}
+use Prim.Native.Nat.{ℕ, _+_, _<_, _≤_}
 use native.Mathlib.Nat.{add-sub-cancel-left}
 use denote.Ref.{now}
 use lib.Dec.{eqb}
 use lib.ListN.{length, take, drop}
 use borrow.Author.Tests.{eqb-true}
-use Rattle.trace_records.specs.Trace.{recordRefusalOf, recordAt, partBy, partOf, startBy, startsAt}
+use Rattle.trace_header.specs.Header.{format1, recordStart}
+use Rattle.trace_records.specs.Trace.{recordRefusalOf, recordAt, partBy, partIn, startBy, partStartIn}
 use Rattle.trace_records.proofs.Within.{record-within}
 use borrow.Author.Needs.{needs}
 use Rattle.trace_records.proofs.part.Statement.{statement}
 use Rattle.trace_records.proofs.part.Tie as tie
 
 -- where the test was passed, the record lies within the trace
-here : (c : tie.Then1) → (c .before .before .before .args .n < 16000)
-    × (7 + 4 * c .before .before .before .args .n + 4 ≤ length (now (c .before .before .before .args .trace)))
+here : (c : tie.Then1) → (c .before .before .before .args .n < format1 .most)
+    × (recordStart format1 (c .before .before .before .args .n) + format1 .recordSize ≤ length (now (c .before .before .before .args .trace)))
 here c =
     let start = c .before .before .before .args in
-    record-within (now (start .trace)) (start .n)
+    record-within format1 (now (start .trace)) (start .n)
     (sym (c .before .record-refusal .ensures) ∙ eqb-true (c .before .record-refusal .result) 0 (c .if1 .taken))
 
 mul-at : tie.Need-mul-at
@@ -39,23 +40,25 @@ tested : (c : tie.After-record-refusal) → eqb (recordRefusalOf (now (c .before
 tested c = ap (λ (k : ℕ). eqb k 0) (sym (c .record-refusal .ensures))
 
 returns : tie.Need-returns
-unfolding partOf startsAt
+unfolding partIn partStartIn
 returns c =
     let start = c .before .before .before .before .args in
     let n = start .n in
     let t = now (start .trace) in
+    let at = recordStart format1 n in
     let given = tested (c .before .before) ∙ c .before .if1 .taken in (
-      ap (λ (k : ℕ). take k (drop (7 + 4 * n) t)) (add-sub-cancel-left (7 + 4 * n) 4) ∙ sym (ap (λ (b : Bool). partBy b (recordAt t n)) given),
-      sym (ap (λ (b : Bool). (start .trace .ptr .0, startBy b n + start .trace .ptr .1)) given),
+      ap (λ (k : ℕ). take k (drop at t)) (add-sub-cancel-left at (format1 .recordSize))
+          ∙ sym (ap (λ (b : Bool). partBy b (recordAt t n)) given),
+      sym (ap (λ (b : Bool). (start .trace .ptr .0, startBy b at + start .trace .ptr .1)) given),
     )
 
 returns-2 : tie.Need-returns-2
-unfolding partOf startsAt
+unfolding partIn partStartIn
 returns-2 c =
     let start = c .before .before .before .before .args in
     let none = tested (c .before .before) ∙ c .before .if1 .left in (
       sym (ap (λ (b : Bool). partBy b (recordAt (now (start .trace)) (start .n))) none),
-      sym (ap (λ (b : Bool). (start .trace .ptr .0, startBy b (start .n) + start .trace .ptr .1)) none),
+      sym (ap (λ (b : Bool). (start .trace .ptr .0, startBy b (recordStart format1 (start .n)) + start .trace .ptr .1)) none),
     )
 
 pub part-spec : {M : Type 1} → statement M

@@ -1,11 +1,11 @@
 -- `trace_records::record_refusal` meets its contract: each answer follows from the tests on its way and what the calls ensure. Assumes nothing.
-use Rattle.trace_records.specs.Trace.{recordRefusalOf}
+use Rattle.trace_records.specs.Trace.{recordRefusalIn}
 use borrow.Author.Needs.{needs}
 use Rattle.trace_records.proofs.record_refusal.Statement.{statement}
 use Rattle.trace_records.proofs.record_refusal.Tie as tie
 
 pub record-refusal-spec : {M : Type 1} → statement M
-unfolding recordRefusalOf
+unfolding recordRefusalIn
 record-refusal-spec =
     tie.close
     (tie.spec
