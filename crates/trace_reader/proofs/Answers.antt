@@ -5,12 +5,12 @@ use Prim.Native.Nat.{ℕ}
 use native.Mathlib.Omega.{arith}
 use lib.ListN.{length, getD}
 use Rattle.rules.specs.declared.Cycle.{Cycle}
-use Rattle.trace_reader.specs.Reading.{numberOf, valuesOf, Answers, Finds}
+use Rattle.trace_reader.specs.Reading.{stepNumber, stepValues, Answers, Finds}
 use Rattle.trace_reader.specs.declared.Found.{Found}
 use Rattle.trace_reader.specs.declared.Step.{Step}
 use Rattle.trace_reader.specs.declared.Step.the-variants.{Record, No}
 
-same : (x y : Step) → numberOf x ≡ numberOf y → valuesOf x ≡ valuesOf y → x ≡ y
+same : (x y : Step) → stepNumber x ≡ stepNumber y → stepValues x ≡ stepValues y → x ≡ y
 same (Record c) (Record d) n v = ap (λ (cs : List Cycle). Record (getD cs 0 c)) v
 same (Record c) (No m) n v = absurd (omega (arith, ap length v))
 same (No k) (Record d) n v = absurd (omega (arith, ap length v))

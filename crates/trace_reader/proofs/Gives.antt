@@ -10,7 +10,8 @@ use lib.Dec.{eqb, leb}
 use denote.Ref.{RefT, now}
 use borrow.Author.Tests.{eq-eqb, ne-eqb, lt-leb}
 use Rattle.trace_header.specs.Header.{countOf, refusalOf}
-use Rattle.trace_records.specs.Trace.{givenOf, recordRefusalBy, recordRefusalOf, recordAt, partOf, cycleOf, cyclesTo}
+use Rattle.trace_records.specs.Trace.{recordRefusalBy, recordRefusalIn, partIn, givenIn}
+use Rattle.trace_records.specs.Trace.{givenOf, recordRefusalOf, recordAt, cycleOf, cyclesTo}
 use Rattle.trace_reader.specs.Reading.{givenAt, afterOf, movedOf, readerAfter, givenTo}
 use Rattle.trace_reader.specs.declared.Reader.{Reader}
 
@@ -22,7 +23,7 @@ not-refused t n false e l = absurd (omega (arith, l))
 -- a record below the count is given, and adds 1
 pub gives : (t : List ℕ) (n : ℕ) → n < givenOf t
     → (recordRefusalOf t n ≡ 0) × (givenAt t n ≡ cycleOf (recordAt t n) ∷ []) × (afterOf t n ≡ n + 1)
-unfolding givenAt afterOf partOf recordRefusalOf givenOf
+unfolding givenAt afterOf partIn recordRefusalIn givenIn
 gives t n l =
     let none : recordRefusalOf t n ≡ 0 = not-refused t n (eqb (refusalOf t) 0) refl l in
     let e : eqb (recordRefusalOf t n) 0 ≡ true = eq-eqb _ 0 none in

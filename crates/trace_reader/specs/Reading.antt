@@ -17,14 +17,14 @@ abbrev pub startOf : (trace : RefT (List ℕ)) → Reader
 startOf t = record { trace = t; next = 0 }
 
 -- document 01's number for each case of an answer: 0 for a record, and the number that says no, 5 to 9
-abbrev pub numberOf : Step → ℕ
-numberOf (Record c) = 0
-numberOf (No number) = number
+abbrev pub stepNumber : Step → ℕ
+stepNumber (Record c) = 0
+stepNumber (No number) = number
 
 -- and its values: the record's cycle, and none where there is "no record"
-abbrev pub valuesOf : Step → List Cycle
-valuesOf (Record c) = c ∷ []
-valuesOf (No number) = []
+abbrev pub stepValues : Step → List Cycle
+stepValues (Record c) = c ∷ []
+stepValues (No number) = []
 
 -- the values for record n of a trace
 abbrev pub givenBy : (given : Bool) → Cycle → List Cycle
@@ -36,7 +36,7 @@ givenAt t n = givenBy (eqb (recordRefusalOf t n) 0) (cycleOf (partOf t n))
 
 -- an answer for record n has the number that refuses the record, and the values for it. No second answer has both (`Answers`, proofs/).
 abbrev pub Answers : List ℕ → (n : ℕ) → Step → Type 0
-Answers t n s = (numberOf s ≡ recordRefusalOf t n) × (valuesOf s ≡ givenAt t n)
+Answers t n s = (stepNumber s ≡ recordRefusalOf t n) × (stepValues s ≡ givenAt t n)
 
 -- "each record given adds 1"; "no record; a reader's number stays"
 unfoldable pub afterOf : List ℕ → (n : ℕ) → ℕ

@@ -6,6 +6,7 @@ use Prim.Native.Nat.{ℕ}
 use denote.Ref.{now}
 use lib.Dec.{eqb}
 use borrow.Author.Tests.{eqb-true}
+use Rattle.trace_header.specs.Header.{format1}
 use Rattle.trace_records.specs.Trace.{recordRefusalOf, partOf, cycleOf}
 use Rattle.trace_records.proofs.Within.{record-within}
 use Rattle.trace_reader.specs.Reading.{givenAt, afterOf}
@@ -15,20 +16,22 @@ use Rattle.trace_reader.proofs.found_at.Tie as tie
 
 add-t9 : tie.Need-add-t9
 add-t9 c =
-    let start = c .before .before .before .before .before .args in
-    let refusal = c .before .before .before .record-refusal in
+    let tested = c .before .before in
+    let start = tested .before .before .before .args in
+    let refusal = tested .before .record-refusal in
     let within =
-    record-within (now (start .trace)) (start .n) (sym (refusal .ensures) ∙ eqb-true (refusal .result) 0 (c .before .before .if1 .taken)) in
+    record-within format1 (now (start .trace)) (start .n) (sym (refusal .ensures) ∙ eqb-true (refusal .result) 0 (tested .if1 .taken)) in
     search needs
 
 returns : tie.Need-returns
 unfolding givenAt afterOf
 returns c =
-    let start = c .before .before .before .before .before .args in
+    let tested = c .before .before in
+    let start = tested .before .before .before .args in
     let t = now (start .trace) in
     let n = start .n in
-    let no = c .before .before .before .record-refusal .ensures in
-    let given : eqb (recordRefusalOf t n) 0 ≡ true = ap (λ (k : ℕ). eqb k 0) (sym no) ∙ c .before .before .if1 .taken in
+    let no = tested .before .record-refusal .ensures in
+    let given : eqb (recordRefusalOf t n) 0 ≡ true = ap (λ (k : ℕ). eqb k 0) (sym no) ∙ tested .if1 .taken in
     let cycle : c .decode .result ≡ cycleOf (partOf t n) = c .decode .ensures ∙ ap cycleOf (c .before .part .ensures .0) in
     ((sym (eqb-true (recordRefusalOf t n) 0 given), simp (given, cycle)), simp given)
 
