@@ -2,8 +2,8 @@
 -- Assumes nothing.
 use mathlib.Core.Path.{refl}
 use Rattle.unit_packed.specs.Packed.{flagsOf, packed}
-use Rattle.unit_packed.specs.Places.{Hold}
+use Rattle.unit_packed.specs.Places.{PackedRowsHold}
 
-pub rows-hold : Hold
+pub packed-rows-hold : PackedRowsHold
 unfolding flagsOf packed
-rows-hold = refl
+packed-rows-hold = refl

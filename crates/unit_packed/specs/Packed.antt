@@ -1,29 +1,64 @@
 -- An answer in six bytes, and answers one after another.
 use mathlib.Core.List.{List, [], _∷_, _++_}
-use Prim.Native.Nat.{ℕ, _/_, _%_}
+use Prim.Native.Nat.{ℕ}
 use Rattle.rules.specs.Flags.{with, flagIf}
 use Rattle.rules.specs.Kinds.{letterOf, numberOf}
 use Rattle.rules.specs.declared.Answer.{Answer}
+use Rattle.unit_stores.specs.Word.{highOf, lowOf}
 
--- the bytes of a packed answer
+-- ---- the layout: what stands where, and the bytes of a packed answer
+
+abbrev pub letterAt : ℕ
+letterAt = 0
+
+abbrev pub numberAt : ℕ
+numberAt = 1
+
+abbrev pub highAt : ℕ
+highAt = 2
+
+abbrev pub lowAt : ℕ
+lowAt = 3
+
+abbrev pub flagsAt : ℕ
+flagsAt = 4
+
+abbrev pub dataByteAt : ℕ
+dataByteAt = 5
+
 abbrev pub width : ℕ
 width = 6
 
--- what an answer says yes or no to: 1 the address is driven, 2 SUP, 4 the trap line, 8 the data byte is driven
+-- the flags' masks: the address is driven, SUP, the trap line, the data byte is driven
+abbrev pub ADDRESS : ℕ
+ADDRESS = 1
+
+abbrev pub SUP : ℕ
+SUP = 2
+
+abbrev pub TRAP : ℕ
+TRAP = 4
+
+abbrev pub DRIVES : ℕ
+DRIVES = 8
+
+-- ---- the bytes
+
+-- what an answer says yes or no to
 unfoldable pub flagsOf : Answer → ℕ
 flagsOf a =
     with (with (with
-    (flagIf (a .address .driven) 1)
-    (flagIf (a .sup) 2))
-    (flagIf (a .trap) 4))
-    (flagIf (a .drives) 8)
+    (flagIf (a .address .driven) ADDRESS)
+    (flagIf (a .sup) SUP))
+    (flagIf (a .trap) TRAP))
+    (flagIf (a .drives) DRIVES)
 
--- an answer in six bytes: the kind's letter, the number of a refusal, the address lines (high byte first), the flags, the data byte
+-- the kind's letter, the number of a refusal, the address lines (high byte first), the flags, the data byte
 unfoldable pub packed : Answer → List ℕ
 packed a =
-    letterOf (a .kind) ∷ numberOf (a .kind) ∷ a .address .block / 256 ∷ a .address .block % 256 ∷ flagsOf a ∷ a .byte ∷ []
+    letterOf (a .kind) ∷ numberOf (a .kind) ∷ highOf (a .address .block) ∷ lowOf (a .address .block) ∷ flagsOf a ∷ a .byte ∷ []
 
 -- answers one after another
-unfoldable pub bytesOf : List Answer → List ℕ
-bytesOf [] = []
-bytesOf (a ∷ rest) = packed a ++ bytesOf rest
+unfoldable pub packedAll : List Answer → List ℕ
+packedAll [] = []
+packedAll (a ∷ rest) = packed a ++ packedAll rest

@@ -1,4 +1,4 @@
--- What stands in each of the six bytes of an answer: one table, with the numbers and letters of include/distantarm.h. `Places` (proofs/)
+-- What stands in each byte of a packed answer: one table, with the numbers and letters of include/distantarm.h. `Places` (proofs/)
 -- shows that all rows hold.
 use mathlib.Core.Bool.{Bool, true, false}
 use mathlib.Core.List.{List, [], _∷_, map}
@@ -9,13 +9,13 @@ use Rattle.rules.specs.declared.Kind.{Kind}
 use Rattle.rules.specs.declared.Kind.the-variants.{Reset, Acknowledge, Command, Aborted, Translated, Passed, Ignored, Refused}
 use Rattle.unit_packed.specs.Packed.{packed}
 
--- an answer, and its six bytes
-pub record Row : Type 0 where
+-- an answer, and its bytes
+pub record PackedRow : Type 0 where
   pub answer : Answer
-  pub six : List ℕ
+  pub bytes : List ℕ
 
-abbrev row : Answer → (letter number high low flags byte : ℕ) → Row
-row a letter number high low flags byte = record { answer = a; six = letter ∷ number ∷ high ∷ low ∷ flags ∷ byte ∷ [] }
+abbrev packedRow : Answer → (letter number high low flags byte : ℕ) → PackedRow
+packedRow a letter number high low flags byte = record { answer = a; bytes = letter ∷ number ∷ high ∷ low ∷ flags ∷ byte ∷ [] }
 
 -- an answer of one kind with the address lines %2326 and the data byte %57
 abbrev said : Kind → (driven sup trap drives : Bool) → Answer
@@ -29,27 +29,27 @@ said kind driven sup trap drives = record {
 }
 
 -- and of that kind alone
-abbrev plain : Kind → Answer
-plain kind = said kind false false false false
+abbrev kindAlone : Kind → Answer
+kindAlone kind = said kind false false false false
 
 -- the letters are R 82, A 65, C 67, F 70, T 84, P 80, I 73, X 88; the flags 1 the address is driven, 2 SUP, 4 the trap line, 8 the data byte
 -- is driven
-abbrev pub rows : List Row
-rows =
-    row (plain (Refused 3)) 88 3 0x23 0x26 0 0x57
-    ∷ row (said (Refused 4) true false false false) 88 4 0x23 0x26 1 0x57
-    ∷ row (said (Refused 4) false true false false) 88 4 0x23 0x26 2 0x57
-    ∷ row (said (Refused 4) false false true false) 88 4 0x23 0x26 4 0x57
-    ∷ row (said (Refused 4) false false false true) 88 4 0x23 0x26 8 0x57
-    ∷ row (said (Refused 4) true true true true) 88 4 0x23 0x26 15 0x57
-    ∷ row (plain Reset) 82 0 0x23 0x26 0 0x57
-    ∷ row (plain Acknowledge) 65 0 0x23 0x26 0 0x57
-    ∷ row (plain Command) 67 0 0x23 0x26 0 0x57
-    ∷ row (plain Aborted) 70 0 0x23 0x26 0 0x57
-    ∷ row (plain Translated) 84 0 0x23 0x26 0 0x57
-    ∷ row (plain Passed) 80 0 0x23 0x26 0 0x57
-    ∷ row (plain Ignored) 73 0 0x23 0x26 0 0x57
+abbrev pub packedRows : List PackedRow
+packedRows =
+    packedRow (kindAlone (Refused 3)) 88 3 0x23 0x26 0 0x57
+    ∷ packedRow (said (Refused 4) true false false false) 88 4 0x23 0x26 1 0x57
+    ∷ packedRow (said (Refused 4) false true false false) 88 4 0x23 0x26 2 0x57
+    ∷ packedRow (said (Refused 4) false false true false) 88 4 0x23 0x26 4 0x57
+    ∷ packedRow (said (Refused 4) false false false true) 88 4 0x23 0x26 8 0x57
+    ∷ packedRow (said (Refused 4) true true true true) 88 4 0x23 0x26 15 0x57
+    ∷ packedRow (kindAlone Reset) 82 0 0x23 0x26 0 0x57
+    ∷ packedRow (kindAlone Acknowledge) 65 0 0x23 0x26 0 0x57
+    ∷ packedRow (kindAlone Command) 67 0 0x23 0x26 0 0x57
+    ∷ packedRow (kindAlone Aborted) 70 0 0x23 0x26 0 0x57
+    ∷ packedRow (kindAlone Translated) 84 0 0x23 0x26 0 0x57
+    ∷ packedRow (kindAlone Passed) 80 0 0x23 0x26 0 0x57
+    ∷ packedRow (kindAlone Ignored) 73 0 0x23 0x26 0 0x57
     ∷ []
 
-abbrev pub Hold : Type 0
-Hold = map (λ r. packed (r .answer)) rows ≡ map (λ r. r .six) rows
+abbrev pub PackedRowsHold : Type 0
+PackedRowsHold = map (λ r. packed (r .answer)) packedRows ≡ map (λ r. r .bytes) packedRows

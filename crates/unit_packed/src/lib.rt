@@ -1,4 +1,4 @@
-// An answer in six bytes.
+// An answer packed in bytes.
 ghost use mathlib.Core.Path.{_≡_};
 ghost use Prim.Native.Nat.{_+_, _≤_};
 ghost use lib.ListN.{length};
@@ -6,9 +6,24 @@ ghost use lib.Seq.{sets};
 ghost use Rattle.unit_packed.specs.Packed.{width, flagsOf, packed};
 use rules::Answer;
 use rules_flags::flag_if;
+use unit_stores::BYTE_VALUES;
 
-// The bytes of an answer, and its flags: the address is driven, SUP, the trap line, the data byte is driven.
+// What stands where: the kind's letter, the number of a refusal, the address lines, the flags, the data byte; and the bytes of an answer.
+pub const LETTER_AT: usize = 0;
+
+pub const NUMBER_AT: usize = 1;
+
+pub const HIGH_AT: usize = 2;
+
+pub const LOW_AT: usize = 3;
+
+pub const FLAGS_AT: usize = 4;
+
+pub const DATA_BYTE_AT: usize = 5;
+
 pub const BYTES: usize = 6;
+
+// The flags: the address is driven, SUP, the trap line, the data byte is driven.
 
 pub const ADDRESS: u8 = 1;
 
@@ -38,10 +53,10 @@ pub fn put(out: &mut [u8], at: usize, a: Answer)
     let number = rules_answers::number(kind);
     let flags = flags_of(a);
     let block = a.address.block;
-    out[at] = letter;
-    out[at + 1] = number;
-    out[at + 2] = (block / 256) as u8;
-    out[at + 3] = (block % 256) as u8;
-    out[at + 4] = flags;
-    out[at + 5] = a.byte;
+    out[at + LETTER_AT] = letter;
+    out[at + NUMBER_AT] = number;
+    out[at + HIGH_AT] = (block / BYTE_VALUES) as u8;
+    out[at + LOW_AT] = (block % BYTE_VALUES) as u8;
+    out[at + FLAGS_AT] = flags;
+    out[at + DATA_BYTE_AT] = a.byte;
 }
