@@ -2,14 +2,13 @@
 -- Assumes nothing.
 use mathlib.Core.Path.{refl}
 use lib.Dec.{T}
-use Rattle.unit_bytes.specs.Snapshot.{descriptorIn, tableIn, notesIn, registersIn, unitIn}
-use Rattle.unit_bytes.specs.Snapshot.{descriptorBytes, tableBytes, notesByte, registerBytes, bytesOf}
-use Rattle.unit_bytes.specs.Places.{laidOut, NotesHold}
+use Rattle.unit_bytes.specs.Computed.{bytesComputed}
+use Rattle.unit_bytes.specs.Places.{laidOut, NoteRowsHold}
 
-pub rows-hold : T laidOut
-unfolding descriptorIn tableIn notesIn registersIn unitIn descriptorBytes tableBytes notesByte registerBytes bytesOf
-rows-hold = tt
+pub byte-rows-hold : T laidOut
+unfolding bytesComputed
+byte-rows-hold = tt
 
-pub notes-hold : NotesHold
-unfolding notesIn notesByte
-notes-hold = (refl, refl)
+pub note-rows-hold : NoteRowsHold
+unfolding bytesComputed
+note-rows-hold = (refl, refl)

@@ -12,11 +12,11 @@ use Rattle.rules.specs.Answers.{refused}
 use Rattle.rules.specs.Step.{stepped}
 use Rattle.rules.specs.declared.Answer.{Answer}
 use Rattle.rules.specs.declared.Cycle.{Cycle}
-use Rattle.unit_bytes.specs.Snapshot.{registersIn, unitIn, bytesOf}
+use Rattle.unit_bytes.specs.Snapshot.{notesAt, LAST_NOTES, registersIn, unitIn, unitBytes}
 
 -- a notes byte with any bit above the four: no unit has it
 abbrev pub strange : List ℕ → Bool
-strange unit = ltb 15 (getD unit 9 0)
+strange unit = ltb LAST_NOTES (getD unit notesAt 0)
 
 -- the answer; where the notes are strange it is that of a damaged unit
 abbrev pub answerBy : (strange : Bool) → List ℕ → Cycle → Answer
@@ -29,7 +29,7 @@ answerOf unit c = answerBy (strange unit) unit c
 -- the unit's bytes after the cycle; where the notes are strange they stay
 abbrev pub bytesBy : (strange : Bool) → List ℕ → Cycle → List ℕ
 bytesBy true unit c = unit
-bytesBy false unit c = sets unit 0 (bytesOf (stepped (unitIn unit) c .unit))
+bytesBy false unit c = sets unit 0 (unitBytes (stepped (unitIn unit) c .unit))
 
 abbrev pub bytesAfter : List ℕ → Cycle → List ℕ
 bytesAfter unit c = bytesBy (strange unit) unit c

@@ -1,3 +1,4 @@
-pub mod Snapshot
-pub mod Places
+pub mod Computed
 pub mod Cycled
+pub mod Places
+pub mod Snapshot

@@ -1,4 +1,4 @@
--- Where each field of a unit stands among its 266 bytes, and each note in its byte: one table, with the numbers of include/distantarm.h.
+-- Where each field of a unit stands among its bytes, and each note in its byte: one table, with the numbers of include/distantarm.h.
 -- The unit `sample` has a value of its own in each field. `Places` (proofs/) shows that the rows hold both ways, of the bytes of a unit and
 -- of the unit in bytes.
 use mathlib.Core.Bool.{Bool, true, false, _&&_}
@@ -8,19 +8,16 @@ use Prim.Native.Nat.{ℕ, _/_, _%_}
 use lib.Dec.{eqb}
 use lib.ListN.{length, getD, set, replicate}
 use Rattle.rules.specs.PowerOn.{blank}
-use Rattle.rules.specs.declared.Descriptor.{Descriptor}
+use Rattle.rules.specs.Seen.{segment, notes}
 use Rattle.rules.specs.declared.Notes.{Notes}
 use Rattle.rules.specs.declared.Unit.{Unit}
-use Rattle.unit_bytes.specs.Snapshot.{notesIn, unitIn, notesByte, bytesOf}
+use Rattle.unit_bytes.specs.Snapshot.{segments, unitSize, notesIn, unitIn, notesByte, unitBytes}
 
 -- ---- the unit that the rows speak of: descriptors 0, 1 and 63, and every register, with values that differ
 
-abbrev pub entry : (base limit attributes : ℕ) → Descriptor
-entry base limit attributes = record { base = base; limit = limit; attributes = attributes }
-
 abbrev pub sample : Unit
 sample = record {
-  table = set (set (set (replicate 64 blank) 0 (entry 0xA1A2 0xA3 0xA4)) 1 (entry 0xB1B2 0xB3 0xB4)) 63 (entry 0xC1C2 0xC3 0xC4);
+  table = set (set (set (replicate segments blank) 0 (segment 0xA1A2 0xA3 0xA4)) 1 (segment 0xB1B2 0xB3 0xB4)) 63 (segment 0xC1C2 0xC3 0xC4);
   registers = record {
     control = record { mr = 0xD0; sar = 0x21; dscr = 0x02 };
     faults = record { vtr = 0x43; vsn = 0x24; voff = 0x85; bcsr = 0x36 };
@@ -32,13 +29,13 @@ sample = record {
 -- ---- its bytes
 
 -- the byte at a place, and the field of a unit that it holds
-pub record Row : Type 0 where
+pub record ByteRow : Type 0 where
   pub at : ℕ
   pub byte : ℕ
   pub field : Unit → ℕ
 
-abbrev row : (at byte : ℕ) → (Unit → ℕ) → Row
-row at byte field = record { at = at; byte = byte; field = field }
+abbrev byteRow : (at byte : ℕ) → (Unit → ℕ) → ByteRow
+byteRow at byte field = record { at = at; byte = byte; field = field }
 
 -- the four bytes of the descriptor with a number: base (high byte first), limit, attributes
 abbrev high : ℕ → Unit → ℕ
@@ -53,65 +50,62 @@ limit n u = getD (u .table) n blank .limit
 abbrev attributes : ℕ → Unit → ℕ
 attributes n u = getD (u .table) n blank .attributes
 
-abbrev pub rows : List Row
-rows =
-    row 0 0xD0 (λ u. u .registers .control .mr)
-    ∷ row 1 0x21 (λ u. u .registers .control .sar)
-    ∷ row 2 0x02 (λ u. u .registers .control .dscr)
-    ∷ row 3 0x43 (λ u. u .registers .faults .vtr)
-    ∷ row 4 0x24 (λ u. u .registers .faults .vsn)
-    ∷ row 5 0x85 (λ u. u .registers .faults .voff)
-    ∷ row 6 0x36 (λ u. u .registers .faults .bcsr)
-    ∷ row 7 0x27 (λ u. u .registers .fetched .isn)
-    ∷ row 8 0x98 (λ u. u .registers .fetched .ioff)
-    ∷ row 9 0x05 (λ u. notesByte (u .registers .notes))
-    ∷ row 10 0xA1 (high 0)
-    ∷ row 11 0xA2 (low 0)
-    ∷ row 12 0xA3 (limit 0)
-    ∷ row 13 0xA4 (attributes 0)
-    ∷ row 14 0xB1 (high 1)
-    ∷ row 15 0xB2 (low 1)
-    ∷ row 16 0xB3 (limit 1)
-    ∷ row 17 0xB4 (attributes 1)
-    ∷ row 262 0xC1 (high 63)
-    ∷ row 263 0xC2 (low 63)
-    ∷ row 264 0xC3 (limit 63)
-    ∷ row 265 0xC4 (attributes 63)
+abbrev pub byteRows : List ByteRow
+byteRows =
+    byteRow 0 0xD0 (λ u. u .registers .control .mr)
+    ∷ byteRow 1 0x21 (λ u. u .registers .control .sar)
+    ∷ byteRow 2 0x02 (λ u. u .registers .control .dscr)
+    ∷ byteRow 3 0x43 (λ u. u .registers .faults .vtr)
+    ∷ byteRow 4 0x24 (λ u. u .registers .faults .vsn)
+    ∷ byteRow 5 0x85 (λ u. u .registers .faults .voff)
+    ∷ byteRow 6 0x36 (λ u. u .registers .faults .bcsr)
+    ∷ byteRow 7 0x27 (λ u. u .registers .fetched .isn)
+    ∷ byteRow 8 0x98 (λ u. u .registers .fetched .ioff)
+    ∷ byteRow 9 0x05 (λ u. notesByte (u .registers .notes))
+    ∷ byteRow 10 0xA1 (high 0)
+    ∷ byteRow 11 0xA2 (low 0)
+    ∷ byteRow 12 0xA3 (limit 0)
+    ∷ byteRow 13 0xA4 (attributes 0)
+    ∷ byteRow 14 0xB1 (high 1)
+    ∷ byteRow 15 0xB2 (low 1)
+    ∷ byteRow 16 0xB3 (limit 1)
+    ∷ byteRow 17 0xB4 (attributes 1)
+    ∷ byteRow 262 0xC1 (high 63)
+    ∷ byteRow 263 0xC2 (low 63)
+    ∷ byteRow 264 0xC3 (limit 63)
+    ∷ byteRow 265 0xC4 (attributes 63)
     ∷ []
 
--- 266 bytes with those of the rows in their places
-abbrev written : List Row → List ℕ
-written [] = replicate 266 0
-written (r ∷ rs) = set (written rs) (r .at) (r .byte)
+-- as many bytes as a unit has, with those of the rows in their places
+abbrev rowBytes : List ByteRow → List ℕ
+rowBytes [] = replicate unitSize 0
+rowBytes (r ∷ rs) = set (rowBytes rs) (r .at) (r .byte)
 
 -- the byte stands there in the bytes of the unit, and the field has it in the unit of the rows' bytes
-abbrev holds : Row → Bool
-holds r = eqb (getD (bytesOf sample) (r .at) 0) (r .byte) && eqb (r .field (unitIn (written rows))) (r .byte)
+abbrev byteRowHolds : ByteRow → Bool
+byteRowHolds r = eqb (getD (unitBytes sample) (r .at) 0) (r .byte) && eqb (r .field (unitIn (rowBytes byteRows))) (r .byte)
 
-abbrev allHold : List Row → Bool
-allHold [] = true
-allHold (r ∷ rs) = holds r && allHold rs
+abbrev byteRowsHold : List ByteRow → Bool
+byteRowsHold [] = true
+byteRowsHold (r ∷ rs) = byteRowHolds r && byteRowsHold rs
 
 abbrev pub laidOut : Bool
-laidOut = eqb (length (bytesOf sample)) 266 && allHold rows
+laidOut = eqb (length (unitBytes sample)) 266 && byteRowsHold byteRows
 
 -- ---- the notes' bits: none, each alone, and all
 
-abbrev noted : (request awaits own hold : Bool) → Notes
-noted request awaits own hold = record { request = request; awaits = awaits; own = own; hold = hold }
-
 abbrev pub noteRows : List (ℕ × Notes)
 noteRows =
-    (0, noted false false false false)
-    ∷ (1, noted true false false false)
-    ∷ (2, noted false true false false)
-    ∷ (4, noted false false true false)
-    ∷ (8, noted false false false true)
-    ∷ (15, noted true true true true)
+    (0, notes false false false false)
+    ∷ (1, notes true false false false)
+    ∷ (2, notes false true false false)
+    ∷ (4, notes false false true false)
+    ∷ (8, notes false false false true)
+    ∷ (15, notes true true true true)
     ∷ []
 
 -- both ways
-abbrev pub NotesHold : Type 0
-NotesHold =
+abbrev pub NoteRowsHold : Type 0
+NoteRowsHold =
     (map (λ p. notesByte (p .1)) noteRows ≡ map (λ p. p .0) noteRows)
     × (map (λ p. notesIn (p .0)) noteRows ≡ map (λ p. p .1) noteRows)

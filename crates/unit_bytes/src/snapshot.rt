@@ -1,11 +1,11 @@
-// A unit record as 266 bytes: the registers, the notes, and four bytes for each descriptor.
+// A unit record as bytes: the registers, the notes, and the descriptors.
 ghost use mathlib.Core.Path.{_≡_};
 ghost use Prim.Native.Nat.{_*_, _+_, _≤_};
 ghost use lib.ListN.{length};
 ghost use lib.Seq.{sets};
 ghost use Rattle.unit_bytes.specs.Snapshot.{tableAt, descriptorSize, segments, unitSize};
 ghost use Rattle.unit_bytes.specs.Snapshot.{descriptorIn, tableIn, notesIn, registersIn, unitIn};
-ghost use Rattle.unit_bytes.specs.Snapshot.{descriptorBytes, tableBytes, notesByte, registerBytes, bytesOf};
+ghost use Rattle.unit_bytes.specs.Snapshot.{descriptorBytes, tableBytes, notesByte, registerBytes, unitBytes};
 use rules::Control;
 use rules::Descriptor;
 use rules::Faults;
@@ -14,13 +14,37 @@ use rules::Notes;
 use rules::Registers;
 use rules::Unit;
 use rules_flags::flag_if;
+use unit_stores::BYTE_VALUES;
+use unit_stores::word;
 
-// Where the notes of a unit stand, and where its descriptors begin.
+// Where each register of a unit stands, the notes, and the first descriptor.
+pub const MR: usize = 0;
+
+pub const SAR: usize = 1;
+
+pub const DSCR: usize = 2;
+
+pub const VTR: usize = 3;
+
+pub const VSN: usize = 4;
+
+pub const VOFF: usize = 5;
+
+pub const BCSR: usize = 6;
+
+pub const ISN: usize = 7;
+
+pub const IOFF: usize = 8;
+
 pub const NOTES: usize = 9;
 
 pub const TABLE: usize = 10;
 
-// The bytes of a descriptor, and those of a unit.
+// Where limit and attributes stand in a descriptor's bytes, behind the base; how many these are, and those of a unit.
+const LIMIT: usize = 2;
+
+const ATTRIBUTES: usize = 3;
+
 pub const DESCRIPTOR: usize = 4;
 
 pub const BYTES: usize = TABLE + DESCRIPTOR * Unit::DESCRIPTORS;
@@ -36,22 +60,15 @@ pub const HOLD: u8 = 8;
 
 pub const LAST_NOTES: u8 = REQUEST | AWAIT | OWN | HOLD;
 
-// 16 bits, high byte first.
-fn pair(high: u8, low: u8) -> u16
-    ensures { λ r. ⌜ r ≡ high * 256 + low ⌝ }
-{
-    (high as u16) * 256 + low as u16
-}
-
 // The descriptor of the four bytes from an index on.
 pub fn descriptor_in(bytes: &[u8], at: usize) -> Descriptor
     requires { ⌜ at + descriptorSize ≤ length (now bytes) ⌝ }
     ensures { λ d. ⌜ d ≡ descriptorIn (now (bytes .entry)) at ⌝ }
 {
     Descriptor {
-        base: pair(bytes[at], bytes[at + 1]),
-        limit: bytes[at + 2],
-        attributes: bytes[at + 3],
+        base: word(bytes[at], bytes[at + 1]),
+        limit: bytes[at + LIMIT],
+        attributes: bytes[at + ATTRIBUTES],
     }
 }
 
@@ -91,19 +108,19 @@ pub fn registers_in(bytes: &[u8]) -> Registers
 {
     Registers {
         control: Control {
-            mr: bytes[0],
-            sar: bytes[1],
-            dscr: bytes[2],
+            mr: bytes[MR],
+            sar: bytes[SAR],
+            dscr: bytes[DSCR],
         },
         faults: Faults {
-            vtr: bytes[3],
-            vsn: bytes[4],
-            voff: bytes[5],
-            bcsr: bytes[6],
+            vtr: bytes[VTR],
+            vsn: bytes[VSN],
+            voff: bytes[VOFF],
+            bcsr: bytes[BCSR],
         },
         fetched: Fetched {
-            isn: bytes[7],
-            ioff: bytes[8],
+            isn: bytes[ISN],
+            ioff: bytes[IOFF],
         },
         notes: notes_in(bytes[NOTES]),
     }
@@ -125,10 +142,10 @@ pub fn put_descriptor(out: &mut [u8], at: usize, d: Descriptor)
     ensures { λ _. ⌜ now (out .exit) ≡ sets (now (out .entry)) at (descriptorBytes d) ⌝ }
 {
     let base = d.base;
-    out[at] = (base / 256) as u8;
-    out[at + 1] = (base % 256) as u8;
-    out[at + 2] = d.limit;
-    out[at + 3] = d.attributes;
+    out[at] = (base / BYTE_VALUES) as u8;
+    out[at + 1] = (base % BYTE_VALUES) as u8;
+    out[at + LIMIT] = d.limit;
+    out[at + ATTRIBUTES] = d.attributes;
 }
 
 // A table's bytes stored at their place.
@@ -159,22 +176,22 @@ pub fn put_registers(out: &mut [u8], r: Registers)
 {
     let n = r.notes;
     let notes = notes_byte(n);
-    out[0] = r.control.mr;
-    out[1] = r.control.sar;
-    out[2] = r.control.dscr;
-    out[3] = r.faults.vtr;
-    out[4] = r.faults.vsn;
-    out[5] = r.faults.voff;
-    out[6] = r.faults.bcsr;
-    out[7] = r.fetched.isn;
-    out[8] = r.fetched.ioff;
+    out[MR] = r.control.mr;
+    out[SAR] = r.control.sar;
+    out[DSCR] = r.control.dscr;
+    out[VTR] = r.faults.vtr;
+    out[VSN] = r.faults.vsn;
+    out[VOFF] = r.faults.voff;
+    out[BCSR] = r.faults.bcsr;
+    out[ISN] = r.fetched.isn;
+    out[IOFF] = r.fetched.ioff;
     out[NOTES] = notes;
 }
 
 // A unit's bytes stored at the start.
 pub fn put_unit(out: &mut [u8], u: Unit)
     requires { ⌜ unitSize ≤ length (now out) ⌝ }
-    ensures { λ _. ⌜ now (out .exit) ≡ sets (now (out .entry)) 0 (bytesOf u) ⌝ }
+    ensures { λ _. ⌜ now (out .exit) ≡ sets (now (out .entry)) 0 (unitBytes u) ⌝ }
 {
     let registers = u.registers;
     let table = u.table;

@@ -8,7 +8,7 @@ use Rattle.rules.specs.declared.Decision.{Decision}
 use Rattle.rules.specs.declared.Registers.{Registers}
 use Rattle.rules.specs.declared.Stepped.{Stepped}
 use Rattle.rules.specs.declared.Unit.{Unit}
-use Rattle.unit_bytes.specs.Snapshot.{bytesOf}
+use Rattle.unit_bytes.specs.Snapshot.{unitBytes}
 use Rattle.unit_bytes.proofs.Ends.{turned}
 use borrow.Author.Needs.{needs}
 use Rattle.unit_bytes.proofs.cycle.cycled.Statement.{statement}
@@ -30,13 +30,14 @@ returns-2 c =
     let shown = c .before .before in
     let put = shown .before .before .before .before in
     let done = put .before .before .before .before in
-    let start = done .before .before .before .before .before .before .before .args in
+    let tested = done .before .before .before in
+    let start = tested .before .before .before .before .args in
     let after = done .step .ensures ∙ ap (λ (u : Unit). stepped u (start .c)) (done .before .unit-in .ensures) in
-    turned false (done .before .before .before .if1 .left)
+    turned false (tested .if1 .left)
     (ap (λ (s : Stepped). s .answer) after)
     (shown .show2 .ensures .0)
     (shown .show2 .ensures .1)
-    (put .put-unit .ensures ∙ ap (λ (s : Stepped). sets (start .unit .now) 0 (bytesOf (s .unit))) after)
+    (put .put-unit .ensures ∙ ap (λ (s : Stepped). sets (start .unit .now) 0 (unitBytes (s .unit))) after)
 
 pub cycled-spec : {M : Type 1} → statement M
 cycled-spec =

@@ -5,22 +5,24 @@ use Prim.Native.Nat.{ℕ}
 use lib.Seq.{sets}
 use Rattle.rules.specs.declared.Unit.{Unit}
 use Rattle.unit_stores.proofs.Laws.{sets-append}
-use Rattle.unit_bytes.specs.Snapshot.{registerBytes, tableBytes, bytesOf}
+use Rattle.unit_bytes.specs.Snapshot.{tableAt, registerBytes, tableBytes, unitBytes}
 use borrow.Author.Needs.{needs}
 use Rattle.unit_bytes.proofs.snapshot.put_unit.Statement.{statement}
 use Rattle.unit_bytes.proofs.snapshot.put_unit.Tie as tie
 
 both : (o : List ℕ) (u : Unit)
-    → sets (sets o 0 (registerBytes (u .registers))) 10 (tableBytes (u .table)) ≡ sets o 0 (bytesOf u)
-unfolding bytesOf registerBytes
+    → sets (sets o 0 (registerBytes (u .registers))) tableAt (tableBytes (u .table)) ≡ sets o 0 (unitBytes u)
+unfolding unitBytes registerBytes
 both o u = sets-append o 0 (registerBytes (u .registers)) (tableBytes (u .table))
 
 returns : tie.Need-returns
 returns c =
-    let registers = c .before .before .before .before .before .before in
-    let start = registers .before .before .before .before .before .args in
-    c .before .before .put-table .ensures
-    ∙ ap (λ (l : List ℕ). sets l 10 (tableBytes (start .u .table))) (registers .put-registers .ensures)
+    let table = c .before .before in
+    let registers = table .before .before .before .before in
+    let begun = registers .before .before .before in
+    let start = begun .before .before .args in
+    table .put-table .ensures
+    ∙ ap (λ (l : List ℕ). sets l tableAt (tableBytes (start .u .table))) (registers .put-registers .ensures)
     ∙ both (start .out .now) (start .u)
 
 pub put-unit-spec : {M : Type 1} → statement M

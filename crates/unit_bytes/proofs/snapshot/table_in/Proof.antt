@@ -7,16 +7,16 @@ use native.Mathlib.Omega.{arith}
 use lib.ListN.{length, take, length-set}
 use lib.Seq.{take-all}
 use borrow.Author.Needs.{needs}
-use Rattle.unit_bytes.specs.Snapshot.{tableIn}
+use Rattle.unit_bytes.specs.Snapshot.{segments, unitSize, tableIn}
 use Rattle.unit_bytes.proofs.Tables.{read}
 use Rattle.unit_bytes.proofs.snapshot.table_in.Statement.{statement}
 use Rattle.unit_bytes.proofs.snapshot.table_in.Tie as tie
 
 abbrev Inv-loop : tie.InvT-loop
-Inv-loop bytes table₀ i₀ table i = (take i table ≡ tableIn bytes i) × (i ≤ 64) × (length table ≡ 64) × (266 ≤ length bytes)
+Inv-loop bytes table₀ i₀ table i = (take i table ≡ tableIn bytes i) × (i ≤ segments) × (length table ≡ segments) × (unitSize ≤ length bytes)
 
 abbrev μ-loop : tie.MeasureT-loop
-μ-loop bytes table₀ i₀ table i = 64 - i
+μ-loop bytes table₀ i₀ table i = segments - i
 
 loop-holds : tie.Need-loop-holds Inv-loop μ-loop
 unfolding tableIn
@@ -36,7 +36,7 @@ loop-again c =
 returns : tie.Need-returns Inv-loop μ-loop
 returns c =
     let at : tie.At-loop Inv-loop μ-loop = c .before in
-    let all : at .loop .i ≡ 64 = omega arith in
+    let all : at .loop .i ≡ segments = omega arith in
     sym (take-all (at .loop .i) (at .loop .table) (omega arith)) ∙ at .loop .inv .0
     ∙ ap (tableIn (at .before .before .args .bytes .now)) all
 
