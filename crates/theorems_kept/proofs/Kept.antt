@@ -16,7 +16,7 @@ use Rattle.rules.specs.declared.Kind.the-variants.{Refused}
 use Rattle.rules.specs.declared.Unit.{Unit}
 use Rattle.theorems_runs.proofs.Refusal.{refusal-leaves}
 use Rattle.theorems_runs.proofs.Undamaged.{size-after}
-use Rattle.unit_bytes.specs.Snapshot.{unitIn, tableBytes, registerBytes, bytesOf}
+use Rattle.unit_bytes.specs.Snapshot.{notesAt, descriptorSize, segments, unitSize, LAST_NOTES, unitIn, tableBytes, registerBytes, unitBytes}
 use Rattle.unit_bytes.proofs.Tables.{bytes-length}
 use Rattle.unit_bytes.specs.Cycled.{strange, answerBy, answerOf, bytesBy, bytesAfter}
 use Rattle.theorems_kept.specs.Kept.{Bytes, RefusalKeeps, calls, left, CallsAreTheRun}
@@ -27,23 +27,23 @@ by : (b : Bool) (unit : List ℕ) (c : Cycle) (n : ℕ) → Bytes unit → stran
     → bytesBy b unit c ≡ unit
 by true unit c n bytes e said = refl
 by false unit c n bytes e said =
-    ap (λ (v : Unit). sets unit 0 (bytesOf v)) (refusal-leaves (unitIn unit) c n said .unit)
-    ∙ put-back unit bytes (ltb-false 15 (getD unit 9 0) e)
+    ap (λ (v : Unit). sets unit 0 (unitBytes v)) (refusal-leaves (unitIn unit) c n said .unit)
+    ∙ put-back unit bytes (ltb-false LAST_NOTES (getD unit notesAt 0) e)
 
 pub refusal-keeps : RefusalKeeps
 refusal-keeps unit c n bytes said = by (strange unit) unit c n bytes refl said
 
 -- a call on the bytes of a unit is a cycle of that unit
-module _ (l : List ℕ) (u : Unit) (c : Cycle) (room : 266 ≤ length l) (size : length (u .table) ≡ 64) where
-  answers-as : answerOf (sets l 0 (bytesOf u)) c ≡ stepped u c .answer
+module _ (l : List ℕ) (u : Unit) (c : Cycle) (room : unitSize ≤ length l) (size : length (u .table) ≡ segments) where
+  answers-as : answerOf (sets l 0 (unitBytes u)) c ≡ stepped u c .answer
   answers-as =
-      ap (λ (b : Bool). answerBy b (sets l 0 (bytesOf u)) c) (never-strange l u room size)
+      ap (λ (b : Bool). answerBy b (sets l 0 (unitBytes u)) c) (never-strange l u room size)
       ∙ ap (λ (v : Unit). stepped v c .answer) (found-again l u room size)
 
-  leaves-as : bytesAfter (sets l 0 (bytesOf u)) c ≡ sets (sets l 0 (bytesOf u)) 0 (bytesOf (stepped u c .unit))
+  leaves-as : bytesAfter (sets l 0 (unitBytes u)) c ≡ sets (sets l 0 (unitBytes u)) 0 (unitBytes (stepped u c .unit))
   leaves-as =
-      ap (λ (b : Bool). bytesBy b (sets l 0 (bytesOf u)) c) (never-strange l u room size)
-      ∙ ap (λ (v : Unit). sets (sets l 0 (bytesOf u)) 0 (bytesOf (stepped v c .unit))) (found-again l u room size)
+      ap (λ (b : Bool). bytesBy b (sets l 0 (unitBytes u)) c) (never-strange l u room size)
+      ∙ ap (λ (v : Unit). sets (sets l 0 (unitBytes u)) 0 (unitBytes (stepped v c .unit))) (found-again l u room size)
 
 -- as many bytes put over others leave nothing of those
 put-over : (l a b : List ℕ) → length a ≤ length l → length b ≡ length a → sets (sets l 0 a) 0 b ≡ sets l 0 b
@@ -57,19 +57,19 @@ put-over l a b room same =
     sets-eq b (sets l 0 a) 0 wide ∙ ap (λ (r : List ℕ). b ++ r) behind ∙ sym (sets-eq b l 0 (omega arith))
 
 -- the bytes of a unit with 64 descriptors
-long : (u : Unit) → length (u .table) ≡ 64 → length (bytesOf u) ≡ 266
-unfolding bytesOf registerBytes
-long u size = let h : length (tableBytes (u .table)) ≡ 4 * length (u .table) = bytes-length (u .table) in omega arith
+long : (u : Unit) → length (u .table) ≡ segments → length (unitBytes u) ≡ unitSize
+unfolding unitBytes registerBytes
+long u size = let h : length (tableBytes (u .table)) ≡ descriptorSize * length (u .table) = bytes-length (u .table) in omega arith
 
 pub calls-are-the-run : CallsAreTheRun
 unfolding calls left answers final
 calls-are-the-run l u [] room size = (refl, refl)
 calls-are-the-run l u (c ∷ cs) room size =
     let v : Unit = stepped u c .unit in
-    let x : List ℕ = sets l 0 (bytesOf u) in
-    let size′ : length (v .table) ≡ 64 = size-after u c ∙ size in
-    let over : bytesAfter x c ≡ sets l 0 (bytesOf v) =
-    leaves-as l u c room size ∙ put-over l (bytesOf u) (bytesOf v) (omega (arith, long u size)) (long v size′ ∙ sym (long u size)) in
+    let x : List ℕ = sets l 0 (unitBytes u) in
+    let size′ : length (v .table) ≡ segments = size-after u c ∙ size in
+    let over : bytesAfter x c ≡ sets l 0 (unitBytes v) =
+    leaves-as l u c room size ∙ put-over l (unitBytes u) (unitBytes v) (omega (arith, long u size)) (long v size′ ∙ sym (long u size)) in
     let rest = calls-are-the-run l v cs room size′ in (
       ap (λ (a : Answer). a ∷ calls (bytesAfter x c) cs) (answers-as l u c room size)
           ∙ ap (λ (m : List ℕ). stepped u c .answer ∷ calls m cs) over

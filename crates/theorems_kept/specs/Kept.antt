@@ -9,12 +9,13 @@ use Rattle.rules.specs.declared.Answer.{Answer}
 use Rattle.rules.specs.declared.Cycle.{Cycle}
 use Rattle.rules.specs.declared.Kind.the-variants.{Refused}
 use Rattle.rules.specs.declared.Unit.{Unit}
-use Rattle.unit_bytes.specs.Snapshot.{unitIn, bytesOf}
+use Rattle.unit_stores.specs.Word.{byteValues}
+use Rattle.unit_bytes.specs.Snapshot.{segments, unitSize, unitIn, unitBytes}
 use Rattle.unit_bytes.specs.Cycled.{answerOf, bytesAfter}
 
 -- numbers that are bytes, as those of every buffer are
 abbrev pub Bytes : List ℕ → Type 0
-Bytes l = (i : ℕ) → getD l i 0 < 256
+Bytes l = (i : ℕ) → getD l i 0 < byteValues
 
 -- CLAIM: a refused cycle leaves every byte as it stood, in a damaged unit and with strange notes too.
 abbrev pub RefusalKeeps : Type 0
@@ -22,7 +23,7 @@ RefusalKeeps = (unit : List ℕ) (c : Cycle) (n : ℕ) → Bytes unit → answer
 
 -- CLAIM: a unit that was put into a buffer with room is the unit that is found there.
 abbrev pub FoundAgain : Type 0
-FoundAgain = (l : List ℕ) (u : Unit) → 266 ≤ length l → length (u .table) ≡ 64 → unitIn (sets l 0 (bytesOf u)) ≡ u
+FoundAgain = (l : List ℕ) (u : Unit) → unitSize ≤ length l → length (u .table) ≡ segments → unitIn (sets l 0 (unitBytes u)) ≡ u
 
 -- the answers of one call after another, each on the bytes that the one before it left
 unfoldable pub calls : (unit : List ℕ) → List Cycle → List Answer
@@ -37,5 +38,5 @@ left unit (c ∷ cs) = left (bytesAfter unit c) cs
 -- CLAIM: they are the answers of the run, and the bytes that are left are those of its last unit, put where the first unit's were, with
 -- all behind them as it stood; from every unit with 64 descriptors, a damaged one too; so from power-on.
 abbrev pub CallsAreTheRun : Type 0
-CallsAreTheRun = (l : List ℕ) (u : Unit) (cs : List Cycle) → 266 ≤ length l → length (u .table) ≡ 64
-    → (calls (sets l 0 (bytesOf u)) cs ≡ answers u cs) × (left (sets l 0 (bytesOf u)) cs ≡ sets l 0 (bytesOf (final u cs)))
+CallsAreTheRun = (l : List ℕ) (u : Unit) (cs : List Cycle) → unitSize ≤ length l → length (u .table) ≡ segments
+    → (calls (sets l 0 (unitBytes u)) cs ≡ answers u cs) × (left (sets l 0 (unitBytes u)) cs ≡ sets l 0 (unitBytes (final u cs)))
