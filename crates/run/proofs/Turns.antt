@@ -17,7 +17,7 @@ use Rattle.rules.specs.declared.Descriptor.{Descriptor}
 use Rattle.rules.specs.declared.Unit.{Unit}
 use Rattle.trace_records.specs.Trace.{recordAt, cycleOf, cyclesTo}
 use Rattle.unit_stores.proofs.Laws.{sets-append}
-use Rattle.unit_packed.specs.Packed.{packed, bytesOf}
+use Rattle.unit_packed.specs.Packed.{width, packed, packedAll}
 use Rattle.run.specs.Run.{ranTo}
 
 -- ---- one cycle more
@@ -32,16 +32,16 @@ unfolding final
 final-more [] u c = refl
 final-more (x ∷ cs) u c = final-more cs (after u x) c
 
-bytes-more : (rest : List Answer) (a : Answer) → bytesOf (rest ++ (a ∷ [])) ≡ bytesOf rest ++ packed a
-unfolding bytesOf packed
+bytes-more : (rest : List Answer) (a : Answer) → packedAll (rest ++ (a ∷ [])) ≡ packedAll rest ++ packed a
+unfolding packedAll packed
 bytes-more [] a = refl
 bytes-more (x ∷ rest) a = ap (λ (r : List ℕ). packed x ++ r) (bytes-more rest a)
 
 -- ---- lengths
-pub bytes-length : (cs : List Cycle) (u : Unit) → length (bytesOf (answers u cs)) ≡ 6 * length cs
-unfolding bytesOf packed answers
+pub bytes-length : (cs : List Cycle) (u : Unit) → length (packedAll (answers u cs)) ≡ width * length cs
+unfolding packedAll packed answers
 bytes-length [] u = refl
-bytes-length (c ∷ cs) u = let h : length (bytesOf (answers (after u c) cs)) ≡ 6 * length cs = bytes-length cs (after u c) in omega (arith, h)
+bytes-length (c ∷ cs) u = let h : length (packedAll (answers (after u c) cs)) ≡ width * length cs = bytes-length cs (after u c) in omega (arith, h)
 
 pub cycles-length : (t : List ℕ) (n : ℕ) → length (cyclesTo t n) ≡ n
 unfolding cyclesTo
@@ -57,16 +57,16 @@ abbrev pub cycleAt : List ℕ → ℕ → Cycle
 cycleAt t n = cycleOf (recordAt t n)
 
 turn-bytes : (t o : List ℕ) (n : ℕ)
-    → sets (ranTo t n o) (6 * n) (packed (decision (unitAt t n) (cycleAt t n) .answer)) ≡ ranTo t (n + 1) o
+    → sets (ranTo t n o) (width * n) (packed (decision (unitAt t n) (cycleAt t n) .answer)) ≡ ranTo t (n + 1) o
 unfolding ranTo cyclesTo
 turn-bytes t o n =
     let cs : List Cycle = cyclesTo t n in
     let a : Answer = decision (unitAt t n) (cycleAt t n) .answer in
-    let long : length (bytesOf (answers powerOn cs)) ≡ 6 * n = bytes-length cs powerOn ∙ ap (λ (k : ℕ). 6 * k) (cycles-length t n) in
+    let long : length (packedAll (answers powerOn cs)) ≡ width * n = bytes-length cs powerOn ∙ ap (λ (k : ℕ). width * k) (cycles-length t n) in
     ap (λ (k : ℕ). sets (ranTo t n o) k (packed a)) (omega (arith, long))
-    ∙ sets-append o 0 (bytesOf (answers powerOn cs)) (packed a)
-    ∙ ap (λ (bs : List ℕ). sets o 0 bs) (sym (ap bytesOf (answers-more cs powerOn (cycleAt t n)) ∙ bytes-more (answers powerOn cs) a))
-    ∙ ap (λ (k : ℕ). sets o 0 (bytesOf (answers powerOn (cyclesTo t k)))) (sym (add-one n))
+    ∙ sets-append o 0 (packedAll (answers powerOn cs)) (packed a)
+    ∙ ap (λ (bs : List ℕ). sets o 0 bs) (sym (ap packedAll (answers-more cs powerOn (cycleAt t n)) ∙ bytes-more (answers powerOn cs) a))
+    ∙ ap (λ (k : ℕ). sets o 0 (packedAll (answers powerOn (cyclesTo t k)))) (sym (add-one n))
 
 turn-unit : (t : List ℕ) (n : ℕ) → after (unitAt t n) (cycleAt t n) ≡ unitAt t (n + 1)
 unfolding cyclesTo
@@ -87,9 +87,9 @@ turned t n u p l e q h =
 
 -- and its answer, stored
 pub stored : (t o out : List ℕ) (n : ℕ) (u : Unit) (p : Decision) → out ≡ ranTo t n o → u ≡ unitAt t n → p ≡ decision u (cycleAt t n)
-    → sets out (6 * n) (packed (p .answer)) ≡ ranTo t (n + 1) o
+    → sets out (width * n) (packed (p .answer)) ≡ ranTo t (n + 1) o
 stored t o out n u p h e q =
-    ap (λ (m : List ℕ). sets m (6 * n) (packed (p .answer))) h
-    ∙ ap (λ (d : Decision). sets (ranTo t n o) (6 * n) (packed (d .answer))) q
-    ∙ ap (λ (v : Unit). sets (ranTo t n o) (6 * n) (packed (decision v (cycleAt t n) .answer))) e
+    ap (λ (m : List ℕ). sets m (width * n) (packed (p .answer))) h
+    ∙ ap (λ (d : Decision). sets (ranTo t n o) (width * n) (packed (d .answer))) q
+    ∙ ap (λ (v : Unit). sets (ranTo t n o) (width * n) (packed (decision v (cycleAt t n) .answer))) e
     ∙ turn-bytes t o n

@@ -3,6 +3,7 @@ ghost use mathlib.Core.Path.{_≡_};
 ghost use Prim.Native.Nat.{_*_, _+_, _≤_};
 ghost use lib.ListN.{length};
 ghost use Rattle.unit_packed.specs.Packed.{width};
+ghost use Rattle.trace_header.specs.Header.{format1, recordStart};
 ghost use Rattle.trace_records.specs.Trace.{recordAt, cycleOf};
 ghost use Rattle.run.specs.Run.{ranTo, Ran};
 use rules::Change;
@@ -24,7 +25,7 @@ pub const NO_ROOM: u8 = 255;
 
 // The cycle of record n, of a trace that has it.
 fn cycle_at(trace: &[u8], n: usize) -> Cycle
-    requires { ⌜ 7 + 4 * n + 4 ≤ length (now trace) ⌝ }
+    requires { ⌜ recordStart format1 n + format1 .recordSize ≤ length (now trace) ⌝ }
     ensures { λ c. ⌜ c ≡ cycleOf (recordAt (now (trace .entry)) n) ⌝ }
 {
     let at = HEAD + RECORD * n;
@@ -33,7 +34,7 @@ fn cycle_at(trace: &[u8], n: usize) -> Cycle
 
 // The first `count` records, answered into the buffer. The turn ends with the change of the table in place.
 fn run_to(trace: &[u8], count: usize, out: &mut [u8])
-    requires { ⌜ (count ≤ 16000) × (7 + 4 * count ≤ length (now trace)) × (width * count ≤ length (now out)) ⌝ }
+    requires { ⌜ (count ≤ format1 .most) × (recordStart format1 count ≤ length (now trace)) × (width * count ≤ length (now out)) ⌝ }
     ensures { λ _. ⌜ now (out .exit) ≡ ranTo (now (trace .entry)) count (now (out .entry)) ⌝ }
 {
     let u = Unit::power_on();
@@ -61,7 +62,7 @@ fn run_to(trace: &[u8], count: usize, out: &mut [u8])
     }
 }
 
-// The run of a trace from power-on: 0, and the answers of all records at the start of the buffer, six bytes for each. A refused trace
+// The run of a trace from power-on: 0, and the answers of all records, packed, at the start of the buffer. A refused trace
 // gives its number, a buffer that is too short gives NO_ROOM, and both leave the buffer as it was.
 pub fn run(trace: &[u8], out: &mut [u8]) -> u8
     ensures { λ no. ⌜ Ran (now (trace .entry)) (now (out .entry)) (now (out .exit)) no ⌝ }

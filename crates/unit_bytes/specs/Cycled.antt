@@ -7,6 +7,7 @@ use lib.Dec.{ltb}
 use lib.ListN.{getD}
 use lib.Seq.{sets}
 use Rattle.unit_packed.specs.Packed.{packed}
+use Rattle.unit_stores.specs.Put.{NO_ROOM}
 use Rattle.rules.specs.Kinds.{numberOf}
 use Rattle.rules.specs.Answers.{refused}
 use Rattle.rules.specs.Step.{stepped}
@@ -34,9 +35,9 @@ bytesBy false unit c = sets unit 0 (unitBytes (stepped (unitIn unit) c .unit))
 abbrev pub bytesAfter : List ℕ → Cycle → List ℕ
 bytesAfter unit c = bytesBy (strange unit) unit c
 
--- 0 or the number of the refusal; 255 says that a buffer has no room, and then both are left as they were
+-- 0 or the number of the refusal; where a buffer has no room both are left as they were
 abbrev pub cycleNumber : (short : Bool) → List ℕ → Cycle → ℕ
-cycleNumber true unit c = 255
+cycleNumber true unit c = NO_ROOM
 cycleNumber false unit c = numberOf (answerOf unit c .kind)
 
 abbrev pub cycleAnswer : (short : Bool) → (unit answer : List ℕ) → Cycle → List ℕ

@@ -6,7 +6,8 @@ use Prim.Native.Nat.{ℕ, _+_, _*_, _-_, _%_, _≤_}
 use native.Mathlib.Omega.{arith}
 use lib.ListN.{length, getD}
 use lib.Seq.{length-sets}
-use Rattle.unit_packed.specs.Packed.{packed, bytesOf}
+use Rattle.trace_header.specs.Header.{format1, recordStart}
+use Rattle.unit_packed.specs.Packed.{width, packed, packedAll}
 use Rattle.rules.specs.PowerOn.{blank}
 use Rattle.rules.specs.Runs.{answers, final}
 use Rattle.rules.specs.Step.{decided, placeOf, changed, place, decision}
@@ -24,7 +25,7 @@ use Rattle.run.proofs.run_to.Tie as tie
 
 abbrev Inv-loop : tie.InvT-loop
 Inv-loop trace count out₀ table₀ r₀ n₀ out table r n =
-    (n ≤ count) × (count ≤ 16000) × (7 + 4 * count ≤ length trace) × (6 * count ≤ length out) × (length out ≡ length out₀)
+    (n ≤ count) × (count ≤ format1 .most) × (recordStart format1 count ≤ length trace) × (width * count ≤ length out) × (length out ≡ length out₀)
     × (out ≡ ranTo trace n out₀) × (record { table = table; registers = r } ≡ unitAt trace n)
 
 abbrev μ-loop : tie.MeasureT-loop
@@ -34,7 +35,7 @@ power-on-requires : tie.Need-power-on-requires Inv-loop μ-loop
 power-on-requires c κs = search needs
 
 loop-holds : tie.Need-loop-holds Inv-loop μ-loop
-unfolding ranTo cyclesTo answers final bytesOf
+unfolding ranTo cyclesTo answers final packedAll
 loop-holds c = (search needs, search needs, search needs, search needs, refl, refl, c .before .before .power-on .ensures)
 
 cycle-at-requires : tie.Need-cycle-at-requires Inv-loop μ-loop
@@ -56,7 +57,11 @@ act-requires : tie.Need-act-requires Inv-loop μ-loop
 act-requires c κs = search needs
 
 mul-put : tie.Need-mul-put Inv-loop μ-loop
-mul-put c = search (needs, c .before .before .before .before .before .before .before .loop .inv)
+mul-put c =
+    let acted = c .before .before in
+    let looked = acted .before .before in
+    let turn = looked .before .before .before in
+    search (needs, turn .loop .inv)
 
 put-requires : tie.Need-put-requires Inv-loop μ-loop
 put-requires c κs = search needs
@@ -79,29 +84,48 @@ enum-known-h-2 c = search needs
 with-flags-in-all-requires : tie.Need-with-flags-in-all-requires Inv-loop μ-loop
 with-flags-in-all-requires c κs = search needs
 
--- where the three arms of the match have come together: the turn's beginning, and what was decided in it
+-- where the three arms of the match have come together: the places of the turn, from the last call back to its beginning
 abbrev Joined : Type 0
 Joined = tie.At-match-came Inv-loop μ-loop
 
-abbrev begun : Joined → tie.At-loop Inv-loop μ-loop
-begun c = c .before .before .before .before .before .before .before .before .before .before .before .before
+abbrev put : Joined → tie.After-put Inv-loop μ-loop
+put c = c .before .before .before .before
 
+abbrev settled : Joined → tie.After-act Inv-loop μ-loop
+settled c = put c .before .before .before
+
+abbrev looked : Joined → tie.After-place-of Inv-loop μ-loop
+looked c = settled c .before .before
+
+abbrev read : Joined → tie.After-cycle-at Inv-loop μ-loop
+read c = looked c .before
+
+abbrev begun : Joined → tie.At-loop Inv-loop μ-loop
+begun c = read c .before .before
+
+-- the lent trace and buffer, as they stood before the loop
+abbrev traceAt : tie.At-loop Inv-loop μ-loop → List ℕ
+traceAt at = let powered = at .before .before .before in powered .before .before .before .args .trace .now
+
+abbrev bufferAt : tie.At-loop Inv-loop μ-loop → List ℕ
+bufferAt at = let powered = at .before .before .before in powered .before .before .before .args .out .now
+
+-- the unit as the turn begins, whose descriptor is looked at, and what is decided
 abbrev was : Joined → Unit
 was c = record { table = begun c .loop .table; registers = begun c .loop .r }
 
 abbrev placed : Joined → ℕ
-placed c = c .before .before .before .before .before .before .before .before .before .place-of .result % 64
+placed c = looked c .place-of .result % 64
 
 abbrev acted : Joined → Decision
-acted c = c .before .before .before .before .before .before .before .act .result
+acted c = settled c .act .result
 
 -- the cycle of this turn's record
 abbrev cycleHere : Joined → Cycle
-cycleHere c = cycleAt (begun c .before .before .before .before .before .before .args .trace .now) (begun c .loop .n)
+cycleHere c = cycleAt (traceAt (begun c)) (begun c .loop .n)
 
 add-n : tie.Need-add-n Inv-loop μ-loop
-add-n c =
-    search (needs, begun c .loop .inv .0, begun c .loop .inv .1, c .before .before .before .before .before .before .before .before .before .before .before .loop-test .taken)
+add-n c = search (needs, begun c .loop .inv .0, begun c .loop .inv .1, read c .before .loop-test .taken)
 
 loop-less : tie.Need-loop-less Inv-loop μ-loop
 loop-less c = search needs
@@ -121,31 +145,27 @@ act-decides : (c : Joined) → acted c ≡ decision (was c) (cycleHere c)
 unfolding decision
 act-decides c =
     let r = begun c .loop .r in
-    let x : Cycle = c .before .before .before .before .before .before .before .before .before .before .cycle-at .result in
-    c .before .before .before .before .before .before .before .act .ensures
-    ∙ ap (λ (k : ℕ). decided r (getD (begun c .loop .table) (k % 64) blank) x)
-    (c .before .before .before .before .before .before .before .before .before .place-of .ensures)
-    ∙ ap (decision (was c)) (c .before .before .before .before .before .before .before .before .before .before .cycle-at .ensures)
+    let x : Cycle = read c .cycle-at .result in
+    settled c .act .ensures
+    ∙ ap (λ (k : ℕ). decided r (getD (begun c .loop .table) (k % 64) blank) x) (looked c .place-of .ensures)
+    ∙ ap (decision (was c)) (read c .cycle-at .ensures)
 
 loop-again : tie.Need-loop-again Inv-loop μ-loop
 loop-again c =
     let at = begun c in
-    let start = at .before .before .before .before .before .before .args in
-    let t : List ℕ = start .trace .now in
-    let o : List ℕ = start .out .now in
+    let t : List ℕ = traceAt at in
+    let o : List ℕ = bufferAt at in
     let n : ℕ = at .loop .n in
-    let put = c .before .before .before .before in
-    let same : length (put .put .last .0) ≡ length (at .loop .out) =
-    ap length (put .put .ensures) ∙ length-sets (at .loop .out) (6 * n) (packed (acted c .answer)) in
+    let same : length (put c .put .last .0) ≡ length (at .loop .out) =
+    ap length (put c .put .ensures) ∙ length-sets (at .loop .out) (width * n) (packed (acted c .answer)) in
     let here : placed c ≡ place (was c) (cycleHere c) =
-    ap (λ (k : ℕ). k % 64) (c .before .before .before .before .before .before .before .before .before .place-of .ensures
-    ∙ ap (placeOf (at .loop .r)) (c .before .before .before .before .before .before .before .before .before .before .cycle-at .ensures)) in (
-      omega (arith, at .loop .inv .0, c .before .before .before .before .before .before .before .before .before .before .before .loop-test .taken),
+    ap (λ (k : ℕ). k % 64) (looked c .place-of .ensures ∙ ap (placeOf (at .loop .r)) (read c .cycle-at .ensures)) in (
+      omega (arith, at .loop .inv .0, read c .before .loop-test .taken),
       at .loop .inv .1,
       at .loop .inv .2,
       omega (arith, same, at .loop .inv .3),
       same ∙ at .loop .inv .4,
-      put .put .ensures ∙ stored t o (at .loop .out) n (was c) (acted c) (at .loop .inv .5) (at .loop .inv .6) (act-decides c),
+      put c .put .ensures ∙ stored t o (at .loop .out) n (was c) (acted c) (at .loop .inv .5) (at .loop .inv .6) (act-decides c),
       turned t n (was c) (acted c) (c .match .table) (at .loop .inv .6) (act-decides c)
           (table-after c ∙ ap (λ (k : ℕ). changed (acted c .change) k (at .loop .table)) here),
     )
@@ -156,8 +176,7 @@ same-length c = search needs
 returns : tie.Need-returns Inv-loop μ-loop
 returns c =
     let at = c .before in
-    let start = at .before .before .before .before .before .before .args in
-    at .loop .inv .5 ∙ ap (λ (k : ℕ). ranTo (start .trace .now) k (start .out .now)) (omega (arith, at .loop .inv .0, c .loop-test .left))
+    at .loop .inv .5 ∙ ap (λ (k : ℕ). ranTo (traceAt at) k (bufferAt at)) (omega (arith, at .loop .inv .0, c .loop-test .left))
 
 pub run-to-spec : {M : Type 1} → statement M
 run-to-spec =
