@@ -8,24 +8,26 @@ use lib.ListN.{length}
 use lib.Seq.{sets}
 use Rattle.rules.specs.PowerOn.{powerOn}
 use Rattle.rules.specs.declared.Cycle.{Cycle}
-use Rattle.unit_bytes.specs.Snapshot.{bytesOf}
+use Rattle.unit_bytes.specs.Snapshot.{unitSize, unitBytes}
 use Rattle.unit_bytes.specs.Cycled.{Cycled}
+use Rattle.unit_packed.specs.Packed.{width}
+use Rattle.unit_stores.specs.Put.{NO_ROOM}
 
 -- a buffer without room for a unit, or for a packed answer
 abbrev pub noUnit : List ℕ → Bool
-noUnit unit = ltb (length unit) 266
+noUnit unit = ltb (length unit) unitSize
 
 abbrev pub noAnswer : List ℕ → Bool
-noAnswer answer = ltb (length answer) 6
+noAnswer answer = ltb (length answer) width
 
--- ---- power-on: 0, and the unit's bytes at the start; 255 says that the buffer has no room, and is left as it was
+-- ---- power-on: 0, and the unit's bytes at the start; a buffer without room is left as it was
 abbrev pub startNumber : (short : Bool) → ℕ
-startNumber true = 255
+startNumber true = NO_ROOM
 startNumber false = 0
 
 abbrev pub startBytes : (short : Bool) → List ℕ → List ℕ
 startBytes true unit = unit
-startBytes false unit = sets unit 0 (bytesOf powerOn)
+startBytes false unit = sets unit 0 (unitBytes powerOn)
 
 pub record PoweredOn (before after : List ℕ) (number : ℕ) : Type 0 where
   pub says : number ≡ startNumber (noUnit before)

@@ -3,7 +3,7 @@ ghost use mathlib.Core.Path.{_≡_};
 ghost use Prim.Native.Nat.{_≤_};
 ghost use lib.ListN.{length};
 ghost use lib.Seq.{sets};
-ghost use Rattle.text.specs.Listed.{room};
+ghost use Rattle.text.specs.Listed.{textRoom};
 ghost use Rattle.text.specs.Text.{printed};
 use libc::STDIN_FILENO;
 use libc::STDOUT_FILENO;
@@ -18,7 +18,7 @@ fn write_text(trace: &[u8], text: &[u8])
 
 // Writes the text of the trace by way of `text`, which holds it afterwards.
 fn show(trace: &[u8], text: &mut [u8])
-    requires { ⌜ room ≤ length (now text) ⌝ }
+    requires { ⌜ textRoom ≤ length (now text) ⌝ }
     ensures { λ _. ⌜ now (text .exit) ≡ sets (now (text .entry)) 0 (printed (now (trace .entry))) ⌝ }
 {
     let n = text::listing::list(trace, text);
@@ -27,7 +27,7 @@ fn show(trace: &[u8], text: &mut [u8])
 
 // Room for the longest text. An array of this size in `main` itself would make its proof slow.
 fn room() -> [u8; text::listing::ROOM]
-    ensures { λ r. ⌜ length r ≡ room ⌝ }
+    ensures { λ r. ⌜ length r ≡ textRoom ⌝ }
 {
     [0; text::listing::ROOM]
 }

@@ -6,10 +6,10 @@ use Prim.Native.Nat.{ℕ}
 use Rattle.text.specs.Fields.{opening, bitText, addressText, byteText, signals}
 use Rattle.rules.specs.Answers.{plain, refused}
 use Rattle.rules.specs.declared.Registers.{Registers}
-use Rattle.text.specs.Text.{line}
+use Rattle.text.specs.Text.{answerLine}
 
 -- the line of a refused cycle: 88 is X, 45 a dash, 48 is 0, 32 a space and 10 a line feed
-pub refused-line : (n number : ℕ) (r : Registers) → line n (refused number r .answer)
+pub refused-line : (n number : ℕ) (r : Registers) → answerLine n (refused number r .answer)
     ≡ opening n 88 number ++ (45 ∷ 45 ∷ 45 ∷ 45 ∷ 32 ∷ 48 ∷ 32 ∷ bitText (r .notes .request) ∷ 32 ∷ 45 ∷ 45 ∷ 10 ∷ [])
-unfolding line addressText byteText signals plain refused
+unfolding answerLine addressText byteText signals plain refused
 refused-line n number r = refl

@@ -3,24 +3,10 @@
 use mathlib.Core.Path.{_≡_, refl}
 use mathlib.Core.List.{List, [], _∷_}
 use Prim.Native.Nat.{ℕ}
-use Rattle.rules.specs.Checks.{rightsOf, outOfLength, warns}
-use Rattle.rules.specs.Codes.{commandOf}
-use Rattle.rules.specs.Commands.{replied, programmed, entry, restarted, acted, executed, commanded}
-use Rattle.rules.specs.Entry.{byteOf, replaced, indexOf, nextCounter, nextSegment, moved, writtenBy}
-use Rattle.rules.specs.Memory.{resumed, aborted, begun, untranslated, touched, touchedBy, noted, checked}
-use Rattle.rules.specs.Answers.{seen, plain, refused}
-use Rattle.rules.specs.Memory.{accessed, memory}
-use Rattle.rules.specs.Recording.{eventOf, busStatus, firstEntry, added, raised, recorded}
-use Rattle.rules.specs.Refusals.{damaged, outOfRange}
-use Rattle.rules.specs.Runs.{answers, final}
-use Rattle.rules.specs.Status.{resetBy, acknowledgeByte, quieted, acknowledged, ignored, purposeOf, byStatus}
-use Rattle.rules.specs.Step.{decided, placeOf, changed, decision, after}
-use Rattle.rules.specs.Translation.{wayOf, blockOf, addressOf}
-use Rattle.trace_header.specs.Header.{marked, pair, refusalOf}
-use Rattle.text.specs.Fields.{kindText, opening, addressText, byteText, signals, headText, refusalText}
-use Rattle.text.specs.Text.{line, printed}
-use Rattle.text.specs.Digits.{decimal, digit}
-use Rattle.trace_records.specs.Trace.{givenOf, recordRefusalOf, partOf, cycleOf, cyclesTo}
+use Rattle.rules.specs.Computed.{computed}
+use Rattle.trace_records.specs.Computed.{traceComputed}
+use Rattle.text.specs.Computed.{textComputed}
+use Rattle.text.specs.Text.{printed}
 
 -- "4D 42 54 00 01 00 09, then 830000C0 83000B23 83000B11 83000B20 83000B01 18001500 28001500 93000200 14000000"
 pub input : List ℕ
@@ -52,5 +38,5 @@ output =
     ∷ []
 
 pub sample : printed input ≡ output
-unfolding input output rightsOf outOfLength warns commandOf replied programmed entry restarted acted executed commanded byteOf replaced indexOf nextCounter nextSegment moved writtenBy seen resumed aborted begun untranslated touched touchedBy noted checked accessed memory eventOf busStatus firstEntry added raised recorded damaged outOfRange plain refused answers final resetBy acknowledgeByte quieted acknowledged ignored purposeOf byStatus decided placeOf changed decision after wayOf blockOf addressOf marked pair refusalOf kindText opening addressText byteText signals headText refusalText line printed decimal digit givenOf recordRefusalOf partOf cycleOf cyclesTo
+unfolding input output computed traceComputed textComputed
 sample = refl

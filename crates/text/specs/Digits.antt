@@ -4,22 +4,25 @@ use mathlib.Core.List.{List, [], _∷_, _++_}
 use Prim.Native.Nat.{ℕ, _+_, _*_, _-_, _/_, _%_}
 use lib.Dec.{leb, ltb}
 
--- the first number that five decimal places do not hold
-abbrev pub beyond : ℕ
-beyond = 100000
+-- how many decimal places are shown at most, and how many numbers these hold
+abbrev pub decimalRoom : ℕ
+decimalRoom = 5
 
--- "in decimal": a place is shown where the number reaches it, and the last always. It is the numeral of a number below `beyond`
-abbrev pub place : (reached : Bool) → ℕ → List ℕ
-place true d = (48 + d) ∷ []
-place false d = []
+abbrev pub decimals : ℕ
+decimals = 100000
+
+-- "in decimal": a place is shown where the number reaches it, and the last always. It is the numeral of a number below `decimals`
+abbrev pub placeText : (reached : Bool) → ℕ → List ℕ
+placeText true d = (48 + d) ∷ []
+placeText false d = []
 
 unfoldable pub decimal : ℕ → List ℕ
 decimal n =
-    place (leb 10000 n) (n / 10000 % 10)
-    ++ (place (leb 1000 n) (n / 1000 % 10)
-    ++ (place (leb 100 n) (n / 100 % 10)
-    ++ (place (leb 10 n) (n / 10 % 10)
-    ++ place true (n % 10))))
+    placeText (leb 10000 n) (n / 10000 % 10)
+    ++ (placeText (leb 1000 n) (n / 1000 % 10)
+    ++ (placeText (leb 100 n) (n / 100 % 10)
+    ++ (placeText (leb 10 n) (n / 10 % 10)
+    ++ placeText true (n % 10))))
 
 -- the number that decimal digits say, after `before`
 unfoldable pub value : (before : ℕ) → List ℕ → ℕ
@@ -30,10 +33,15 @@ value before (d ∷ ds) = value (before * 10 + (d - 48)) ds
 unfoldable pub digit : ℕ → ℕ
 digit d = cond (ltb d 10) (48 + d) (55 + d)
 
--- "two capital hexadecimal digits"
-abbrev pub two : ℕ → List ℕ
-two n = digit (n / 16) ∷ digit (n % 16) ∷ []
+-- "two capital hexadecimal digits" of a byte, "or -- where not driven"
+abbrev pub hexRoom : ℕ
+hexRoom = 2
 
--- a byte that is not driven: "--"
+abbrev pub hexText : ℕ → List ℕ
+hexText n = digit (n / 16) ∷ digit (n % 16) ∷ []
+
 abbrev pub dash : ℕ
 dash = 45
+
+abbrev pub dashes : List ℕ
+dashes = dash ∷ dash ∷ []

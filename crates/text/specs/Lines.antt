@@ -1,24 +1,25 @@
--- The line of an answer, and the lines of many, read from answers that are packed in six bytes each (`packed` of the crate pack).
+-- The line of an answer, and the lines of many, read from packed answers (`packed`), and the most bytes of a line.
 use mathlib.Core.List.{List, [], _∷_, _++_}
 use Prim.Native.Nat.{ℕ, zero, suc, _+_}
 use lib.ListN.{getD, take, drop}
-use Rattle.unit_packed.specs.Packed.{width}
+use Rattle.unit_packed.specs.Packed.{letterAt, numberAt, highAt, lowAt, flagsAt, dataByteAt, width, ADDRESS, SUP, TRAP, DRIVES}
 use Rattle.rules.specs.Flags.{has}
-use Rattle.text.specs.Fields.{space, opening, addressText, signals}
+use Rattle.text.specs.Digits.{decimalRoom}
+use Rattle.text.specs.Fields.{space, markRoom, openingRoom, opening, addressRoom, addressText, signalsRoom, signals}
 
 -- the most bytes of the first line, or of a refused trace's only line, and of the line of a record
 abbrev pub headRoom : ℕ
-headRoom = 12
+headRoom = markRoom + decimalRoom + 1
 
 abbrev pub lineRoom : ℕ
-lineRoom = 25
+lineRoom = openingRoom + addressRoom + 1 + signalsRoom
 
--- the line of six bytes
-unfoldable pub lineOf : ℕ → (six : List ℕ) → List ℕ
+-- the line of one
+unfoldable pub lineOf : ℕ → (packed : List ℕ) → List ℕ
 lineOf n p =
-    opening n (getD p 0 0) (getD p 1 0)
-    ++ (addressText (has (getD p 4 0) 1) (getD p 2 0) (getD p 3 0)
-    ++ (space ∷ signals (has (getD p 4 0) 2) (has (getD p 4 0) 4) (has (getD p 4 0) 8) (getD p 5 0)))
+    opening n (getD p letterAt 0) (getD p numberAt 0)
+    ++ (addressText (has (getD p flagsAt 0) ADDRESS) (getD p highAt 0) (getD p lowAt 0)
+    ++ (space ∷ signals (has (getD p flagsAt 0) SUP) (has (getD p flagsAt 0) TRAP) (has (getD p flagsAt 0) DRIVES) (getD p dataByteAt 0)))
 
 -- k lines, numbered from n
 unfoldable pub linesOf : (n k : ℕ) → List ℕ → List ℕ

@@ -4,18 +4,20 @@ ghost use Prim.Native.Nat.{_+_, _<_, _≤_};
 ghost use lib.ListN.{length};
 ghost use Rattle.rules.specs.Flags.{has};
 ghost use Rattle.unit_stores.specs.Put.{Put};
-ghost use Rattle.text.specs.Digits.{beyond};
-ghost use Rattle.text.specs.Fields.{kindText, opening, addressText, bitText, byteText, signals};
+ghost use Rattle.unit_packed.specs.Packed.{SUP, TRAP, DRIVES};
+ghost use Rattle.text.specs.Digits.{decimals, hexRoom};
+ghost use Rattle.text.specs.Fields.{kindRoom, kindText, openingRoom, opening, addressRoom, addressText};
+ghost use Rattle.text.specs.Fields.{bitText, byteText, signalsRoom, signals};
 use crate::numbers::put_dashes;
 use crate::numbers::put_decimal;
-use crate::numbers::put_two;
+use crate::numbers::put_hex;
 use unit_stores::put;
 
 // A kind's letter, and its number unless that is 0.
 pub fn put_kind(out: &mut [u8], at: usize, letter: u8, number: u8) -> usize
-    requires { ⌜ at + 6 ≤ length (now out) ⌝ }
+    requires { ⌜ at + kindRoom ≤ length (now out) ⌝ }
     ensures { λ r. ⌜ Put (now (out .entry)) at (kindText letter number) (now (out .exit)) r ⌝ }
-    ensures { λ r. ⌜ r ≤ at + 6 ⌝ }
+    ensures { λ r. ⌜ r ≤ at + kindRoom ⌝ }
 {
     let p = put(out, at, letter);
     let plain = number == 0;
@@ -27,9 +29,9 @@ pub fn put_kind(out: &mut [u8], at: usize, letter: u8, number: u8) -> usize
 
 // A record's number and its kind.
 pub fn put_opening(out: &mut [u8], at: usize, n: usize, letter: u8, number: u8) -> usize
-    requires { ⌜ (at + 13 ≤ length (now out)) × (n < beyond) ⌝ }
+    requires { ⌜ (at + openingRoom ≤ length (now out)) × (n < decimals) ⌝ }
     ensures { λ r. ⌜ Put (now (out .entry)) at (opening n letter number) (now (out .exit)) r ⌝ }
-    ensures { λ r. ⌜ r ≤ at + 13 ⌝ }
+    ensures { λ r. ⌜ r ≤ at + openingRoom ⌝ }
 {
     let p1 = put_decimal(out, at, n);
     let p2 = put(out, p1, b' ');
@@ -39,13 +41,13 @@ pub fn put_opening(out: &mut [u8], at: usize, n: usize, letter: u8, number: u8) 
 
 // The address lines, or dashes.
 pub fn put_address(out: &mut [u8], at: usize, driven: bool, high: u8, low: u8) -> usize
-    requires { ⌜ at + 4 ≤ length (now out) ⌝ }
+    requires { ⌜ at + addressRoom ≤ length (now out) ⌝ }
     ensures { λ r. ⌜ Put (now (out .entry)) at (addressText driven high low) (now (out .exit)) r ⌝ }
-    ensures { λ r. ⌜ r ≤ at + 4 ⌝ }
+    ensures { λ r. ⌜ r ≤ at + addressRoom ⌝ }
 {
     if driven {
-        let p = put_two(out, at, high);
-        return put_two(out, p, low);
+        let p = put_hex(out, at, high);
+        return put_hex(out, p, low);
     }
     let p = put_dashes(out, at);
     put_dashes(out, p)
@@ -53,12 +55,12 @@ pub fn put_address(out: &mut [u8], at: usize, driven: bool, high: u8, low: u8) -
 
 // The data byte, or dashes.
 fn put_byte(out: &mut [u8], at: usize, driven: bool, byte: u8) -> usize
-    requires { ⌜ at + 2 ≤ length (now out) ⌝ }
+    requires { ⌜ at + hexRoom ≤ length (now out) ⌝ }
     ensures { λ r. ⌜ Put (now (out .entry)) at (byteText driven byte) (now (out .exit)) r ⌝ }
-    ensures { λ r. ⌜ r ≤ at + 2 ⌝ }
+    ensures { λ r. ⌜ r ≤ at + hexRoom ⌝ }
 {
     if driven {
-        return put_two(out, at, byte);
+        return put_hex(out, at, byte);
     }
     put_dashes(out, at)
 }
@@ -72,9 +74,9 @@ fn bit_of(on: bool) -> u8
 
 // SUP, the request, the data byte and the end of a line, by an answer's flags.
 pub fn put_signals(out: &mut [u8], at: usize, flags: u8, byte: u8) -> usize
-    requires { ⌜ at + 7 ≤ length (now out) ⌝ }
-    ensures { λ r. ⌜ Put (now (out .entry)) at (signals (has flags 2) (has flags 4) (has flags 8) byte) (now (out .exit)) r ⌝ }
-    ensures { λ r. ⌜ r ≤ at + 7 ⌝ }
+    requires { ⌜ at + signalsRoom ≤ length (now out) ⌝ }
+    ensures { λ r. ⌜ Put (now (out .entry)) at (signals (has flags SUP) (has flags TRAP) (has flags DRIVES) byte) (now (out .exit)) r ⌝ }
+    ensures { λ r. ⌜ r ≤ at + signalsRoom ⌝ }
 {
     let sup = bit_of(flags & unit_packed::SUP != 0);
     let request = bit_of(flags & unit_packed::TRAP != 0);

@@ -4,8 +4,8 @@ ghost use Prim.Native.Nat.{_*_, _+_, _<_, _≤_};
 ghost use lib.ListN.{length};
 ghost use Rattle.unit_packed.specs.Packed.{width};
 ghost use Rattle.unit_stores.specs.Put.{Put};
-ghost use Rattle.text.specs.Digits.{beyond};
-ghost use Rattle.text.specs.Fields.{markText, headText, refusalText};
+ghost use Rattle.text.specs.Digits.{decimals};
+ghost use Rattle.text.specs.Fields.{markRoom, markText, headText, refusalText};
 ghost use Rattle.text.specs.Lines.{headRoom, lineRoom, lineOf, linesOf};
 use crate::fields::put_address;
 use crate::fields::put_kind;
@@ -20,18 +20,18 @@ pub const HEAD: usize = 12;
 
 pub const LINE: usize = 25;
 
-// A record's line, from its answer's six bytes.
-fn put_line(out: &mut [u8], at: usize, n: usize, six: &[u8]) -> usize
-    requires { ⌜ (at + lineRoom ≤ length (now out)) × (n < beyond) × (length (now six) ≡ width) ⌝ }
-    ensures { λ r. ⌜ Put (now (out .entry)) at (lineOf n (now (six .entry))) (now (out .exit)) r ⌝ }
+// A record's line, from its packed answer.
+fn put_line(out: &mut [u8], at: usize, n: usize, packed: &[u8]) -> usize
+    requires { ⌜ (at + lineRoom ≤ length (now out)) × (n < decimals) × (length (now packed) ≡ width) ⌝ }
+    ensures { λ r. ⌜ Put (now (out .entry)) at (lineOf n (now (packed .entry))) (now (out .exit)) r ⌝ }
     ensures { λ r. ⌜ r ≤ at + lineRoom ⌝ }
 {
-    let letter = six[0];
-    let number = six[1];
-    let high = six[2];
-    let low = six[3];
-    let flags = six[4];
-    let byte = six[5];
+    let letter = packed[unit_packed::LETTER_AT];
+    let number = packed[unit_packed::NUMBER_AT];
+    let high = packed[unit_packed::HIGH_AT];
+    let low = packed[unit_packed::LOW_AT];
+    let flags = packed[unit_packed::FLAGS_AT];
+    let byte = packed[unit_packed::DATA_BYTE_AT];
     let p1 = put_opening(out, at, n, letter, number);
     let p2 = put_address(out, p1, flags & unit_packed::ADDRESS != 0, high, low);
     let p3 = put(out, p2, b' ');
@@ -40,7 +40,7 @@ fn put_line(out: &mut [u8], at: usize, n: usize, six: &[u8]) -> usize
 
 // The lines of all records, from their packed answers.
 pub fn put_lines(packed: &[u8], count: usize, out: &mut [u8], at: usize) -> usize
-    requires { ⌜ (width * count ≤ length (now packed)) × (at + lineRoom * count ≤ length (now out)) × (count ≤ beyond) ⌝ }
+    requires { ⌜ (width * count ≤ length (now packed)) × (at + lineRoom * count ≤ length (now out)) × (count ≤ decimals) ⌝ }
     ensures { λ r. ⌜ Put (now (out .entry)) at (linesOf 0 count (now (packed .entry))) (now (out .exit)) r ⌝ }
     ensures { λ r. ⌜ r ≤ at + lineRoom * count ⌝ }
 {
@@ -56,7 +56,7 @@ pub fn put_lines(packed: &[u8], count: usize, out: &mut [u8], at: usize) -> usiz
 fn put_mark(out: &mut [u8]) -> usize
     requires { ⌜ headRoom ≤ length (now out) ⌝ }
     ensures { λ r. ⌜ Put (now (out .entry)) 0 markText (now (out .exit)) r ⌝ }
-    ensures { λ r. ⌜ r ≤ 6 ⌝ }
+    ensures { λ r. ⌜ r ≤ markRoom ⌝ }
 {
     let p1 = put(out, 0, MARK[0]);
     let p2 = put(out, p1, MARK[1]);
@@ -68,7 +68,7 @@ fn put_mark(out: &mut [u8]) -> usize
 
 // The first line.
 pub fn put_head(out: &mut [u8], count: usize) -> usize
-    requires { ⌜ (headRoom ≤ length (now out)) × (count < beyond) ⌝ }
+    requires { ⌜ (headRoom ≤ length (now out)) × (count < decimals) ⌝ }
     ensures { λ r. ⌜ Put (now (out .entry)) 0 (headText count) (now (out .exit)) r ⌝ }
     ensures { λ r. ⌜ r ≤ headRoom ⌝ }
 {

@@ -1,7 +1,7 @@
 // The text of a trace, as mmurun prints it, into a lent buffer.
 ghost use mathlib.Core.Path.{_≡_};
 ghost use lib.ListN.{length};
-ghost use Rattle.run.specs.Run.{room};
+ghost use Rattle.run.specs.Run.{answersRoom};
 ghost use Rattle.text.specs.Listed.{Listed, Counts};
 use crate::lines::put_head;
 use crate::lines::put_lines;
@@ -14,7 +14,7 @@ pub const ROOM: usize = crate::lines::HEAD + crate::lines::LINE * MOST;
 
 // Zeros, with room for the answers of the longest trace. Its length is all that matters.
 fn zeros() -> [u8; run::ROOM]
-    ensures { λ r. ⌜ room ≡ length r ⌝ }
+    ensures { λ r. ⌜ answersRoom ≡ length r ⌝ }
 {
     [0; run::ROOM]
 }

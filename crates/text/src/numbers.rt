@@ -1,16 +1,15 @@
 // Numbers as text. Each function puts some bytes at an index and answers the index after them.
-ghost use mathlib.Core.List.{[], _∷_};
 ghost use mathlib.Core.Path.{_≡_};
 ghost use Prim.Native.Nat.{_+_, _<_, _≤_};
 ghost use lib.ListN.{length};
 ghost use Rattle.unit_stores.specs.Put.{Put};
-ghost use Rattle.text.specs.Digits.{beyond, place, decimal, value, digit, two, dash};
+ghost use Rattle.text.specs.Digits.{decimalRoom, decimals, placeText, decimal, value, digit, hexRoom, hexText, dashes};
 use unit_stores::put;
 
 // A decimal digit where the number reaches its place.
 fn put_place(out: &mut [u8], at: usize, reached: bool, d: usize) -> usize
     requires { ⌜ (at < length (now out)) × (d < 10) ⌝ }
-    ensures { λ r. ⌜ Put (now (out .entry)) at (place reached d) (now (out .exit)) r ⌝ }
+    ensures { λ r. ⌜ Put (now (out .entry)) at (placeText reached d) (now (out .exit)) r ⌝ }
     ensures { λ r. ⌜ r ≤ at + 1 ⌝ }
 {
     if reached {
@@ -21,9 +20,9 @@ fn put_place(out: &mut [u8], at: usize, reached: bool, d: usize) -> usize
 
 // A number below 100,000 in decimal, with no zero in front. The digits say the number: those of 100,000 would not.
 pub fn put_decimal(out: &mut [u8], at: usize, n: usize) -> usize
-    requires { ⌜ (at + 5 ≤ length (now out)) × (n < beyond) ⌝ }
+    requires { ⌜ (at + decimalRoom ≤ length (now out)) × (n < decimals) ⌝ }
     ensures { λ r. ⌜ Put (now (out .entry)) at (decimal n) (now (out .exit)) r ⌝ }
-    ensures { λ r. ⌜ r ≤ at + 5 ⌝ }
+    ensures { λ r. ⌜ r ≤ at + decimalRoom ⌝ }
     ensures { λ r. ⌜ value 0 (decimal n) ≡ n ⌝ }
 {
     let p4 = put_place(out, at, 10000 <= n, n / 10000 % 10);
@@ -42,10 +41,10 @@ fn digit_of(d: u8) -> u8
 }
 
 // Two capital hexadecimal digits.
-pub fn put_two(out: &mut [u8], at: usize, n: u8) -> usize
-    requires { ⌜ at + 2 ≤ length (now out) ⌝ }
-    ensures { λ r. ⌜ Put (now (out .entry)) at (two n) (now (out .exit)) r ⌝ }
-    ensures { λ r. ⌜ r ≤ at + 2 ⌝ }
+pub fn put_hex(out: &mut [u8], at: usize, n: u8) -> usize
+    requires { ⌜ at + hexRoom ≤ length (now out) ⌝ }
+    ensures { λ r. ⌜ Put (now (out .entry)) at (hexText n) (now (out .exit)) r ⌝ }
+    ensures { λ r. ⌜ r ≤ at + hexRoom ⌝ }
 {
     let high = digit_of(n / 16);
     let low = digit_of(n % 16);
@@ -55,9 +54,9 @@ pub fn put_two(out: &mut [u8], at: usize, n: u8) -> usize
 
 // Two dashes.
 pub fn put_dashes(out: &mut [u8], at: usize) -> usize
-    requires { ⌜ at + 2 ≤ length (now out) ⌝ }
-    ensures { λ r. ⌜ Put (now (out .entry)) at (dash ∷ dash ∷ []) (now (out .exit)) r ⌝ }
-    ensures { λ r. ⌜ r ≤ at + 2 ⌝ }
+    requires { ⌜ at + hexRoom ≤ length (now out) ⌝ }
+    ensures { λ r. ⌜ Put (now (out .entry)) at dashes (now (out .exit)) r ⌝ }
+    ensures { λ r. ⌜ r ≤ at + hexRoom ⌝ }
 {
     let p = put(out, at, b'-');
     put(out, p, b'-')

@@ -36,6 +36,10 @@ format1 = record { version = 1; most = 16000; recordSize = 4 }
 abbrev pub recordStart : Format → (n : ℕ) → ℕ
 recordStart f n = headSize + f .recordSize * n
 
+-- the bytes of the longest trace
+abbrev pub longest : Format → ℕ
+longest f = recordStart f (f .most)
+
 -- ---- what a trace says
 
 unfoldable pub marked : List ℕ → Bool

@@ -6,6 +6,8 @@ use lib.Dec.{ltb}
 use lib.ListN.{length}
 use borrow.Author.Tests.{ltb-false}
 use Rattle.theorems_runs.proofs.Tests.{or-l, or-r}
+use Rattle.unit_bytes.specs.Snapshot.{unitSize}
+use Rattle.unit_packed.specs.Packed.{width}
 use Rattle.distantarm.proofs.Ends.{roomy}
 use borrow.Author.Needs.{needs}
 use Rattle.distantarm.proofs.distantarm_cycle.Statement.{statement}
@@ -13,11 +15,14 @@ use Rattle.distantarm.proofs.distantarm_cycle.Tie as tie
 
 cycled-requires : tie.Need-cycled-requires
 cycled-requires c κs =
-    let start = c .before .before .before .before .before .args in
+    let tested = c .before .before in
+    let start = tested .before .before .before .args in
     let unit : ℕ = length (start .unit .now) in
     let answer : ℕ = length (start .answer .now) in
-    let room = c .before .before .if1 .left in
-    (ltb-false unit 266 (or-l (ltb unit 266) (ltb answer 6) room), ltb-false answer 6 (or-r (ltb unit 266) (ltb answer 6) room))
+    let room = tested .if1 .left in (
+      ltb-false unit unitSize (or-l (ltb unit unitSize) (ltb answer width) room),
+      ltb-false answer width (or-r (ltb unit unitSize) (ltb answer width) room),
+    )
 
 returns-2 : tie.Need-returns-2
 returns-2 c =

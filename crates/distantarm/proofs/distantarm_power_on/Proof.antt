@@ -3,7 +3,7 @@ use mathlib.Core.Path.{refl, ap, _∙_}
 use mathlib.Core.Bool.{true, false}
 use lib.Seq.{sets}
 use Rattle.rules.specs.declared.Unit.{Unit}
-use Rattle.unit_bytes.specs.Snapshot.{bytesOf}
+use Rattle.unit_bytes.specs.Snapshot.{unitBytes}
 use Rattle.distantarm.proofs.Ends.{powered}
 use borrow.Author.Needs.{needs}
 use Rattle.distantarm.proofs.distantarm_power_on.Statement.{statement}
@@ -14,7 +14,7 @@ returns-2 c =
     let put = c .before .before in
     let made = put .before .before in
     powered false (made .before .if1 .left) refl
-    (put .put-unit .ensures ∙ ap (λ (u : Unit). sets (made .before .before .before .args .unit .now) 0 (bytesOf u)) (made .power-on .ensures))
+    (put .put-unit .ensures ∙ ap (λ (u : Unit). sets (made .before .before .before .args .unit .now) 0 (unitBytes u)) (made .power-on .ensures))
 
 pub distantarm-power-on-spec : {M : Type 1} → statement M
 distantarm-power-on-spec =

@@ -4,7 +4,7 @@ use mathlib.Core.Path.{ap, _∙_}
 use denote.Ref.{now}
 use lib.ListN.{length}
 use borrow.Author.Tests.{le-ltb}
-use Rattle.text.specs.Listed.{room, filled}
+use Rattle.text.specs.Listed.{textRoom, filled}
 use Rattle.text.proofs.Whole.{listed}
 use borrow.Author.Needs.{needs}
 use Rattle.mmurun.proofs.show.Statement.{statement}
@@ -23,7 +23,7 @@ returns c =
     let start = done .before .before .before .before in
     let t = now (start .args .trace) in
     let l = now (start .args .text) in
-    done .list .ensures .0 .text ∙ ap (λ (b : Bool). filled b t l) (le-ltb (length l) room (start .pre))
+    done .list .ensures .0 .text ∙ ap (λ (b : Bool). filled b t l) (le-ltb (length l) textRoom (start .pre))
 
 pub show-spec : {M : Type 1} → statement M
 show-spec =

@@ -11,7 +11,7 @@ returns c =
     let at2 = c .before .before in
     let at1 = at2 .before .before .before .before in
     simp (at1 .before .before .if1 .taken)
-    (then (at1 .put-two .ensures .0) (at2 .put-two2 .ensures .0), search needs)
+    (then (at1 .put-hex .ensures .0) (at2 .put-hex2 .ensures .0), search needs)
 
 returns-2 : tie.Need-returns-2
 unfolding addressText

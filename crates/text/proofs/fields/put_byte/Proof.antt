@@ -11,7 +11,7 @@ put-byte-spec =
     (tie.spec
     (λ c κs. search needs)
     (λ c. search needs)
-    (λ c. simp (c .before .before .before .before .if1 .taken) (c .before .before .put-two .ensures))
+    (λ c. simp (c .before .before .before .before .if1 .taken) (c .before .before .put-hex .ensures))
     (λ c κs. search needs)
     (λ c. search needs)
     (λ c. simp (c .before .before .before .before .if1 .left) (c .before .before .put-dashes .ensures)))

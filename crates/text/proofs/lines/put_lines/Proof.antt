@@ -6,10 +6,11 @@ use native.Mathlib.Omega.{arith}
 use denote.Ref.{now}
 use lib.ListN.{length, drop, length-drop}
 use lib.Seq.{sets, length-take-le}
+use Rattle.unit_packed.specs.Packed.{width}
 use Rattle.unit_stores.specs.Put.{Put}
 use Rattle.unit_stores.proofs.Laws.{before-all, after-all}
-use Rattle.text.specs.Digits.{beyond}
-use Rattle.text.specs.Lines.{linesOf}
+use Rattle.text.specs.Digits.{decimals}
+use Rattle.text.specs.Lines.{lineRoom, linesOf}
 use Rattle.text.proofs.Turns.{linesFrom, from-start, from-end, turn}
 use borrow.Author.Needs.{needs}
 use Rattle.text.proofs.lines.put_lines.Statement.{statement}
@@ -17,7 +18,7 @@ use Rattle.text.proofs.lines.put_lines.Tie as tie
 
 abbrev Inv-loop : tie.InvT-loop
 Inv-loop packed count out₀ at p₀ n₀ out p n =
-    (n ≤ count) × (count ≤ beyond) × (length out ≡ length out₀) × (p ≤ at + 25 * n)
+    (n ≤ count) × (count ≤ decimals) × (length out ≡ length out₀) × (p ≤ at + lineRoom * n)
     × Put out p (linesFrom packed count n) (sets out₀ at (linesOf 0 count packed)) (at + length (linesOf 0 count packed))
 
 abbrev μ-loop : tie.MeasureT-loop
@@ -53,9 +54,9 @@ put-line-requires : tie.Need-put-line-requires Inv-loop μ-loop
 put-line-requires c κs =
     let head = c .before .before .before in
     let start = head .before .before .before .args in
-    let from = 6 * head .loop .n in
-    let left : 6 ≤ length (drop from (now (start .packed))) = simp length-drop (omega arith) in
-    (search needs, search needs, rw (add-sub-cancel-left from 6) (length-take-le 6 (drop from (now (start .packed))) left))
+    let from = width * head .loop .n in
+    let left : width ≤ length (drop from (now (start .packed))) = simp length-drop (omega arith) in
+    (search needs, search needs, rw (add-sub-cancel-left from width) (length-take-le width (drop from (now (start .packed))) left))
 
 add-n : tie.Need-add-n Inv-loop μ-loop
 add-n c = search needs
@@ -68,8 +69,8 @@ loop-again c =
     let put = c .before .before in
     let head = put .before .before .before .before in
     let start = head .before .before .before .args in
-    let from = 6 * head .loop .n in
-    let line = rw (add-sub-cancel-left from 6) at (put .put-line .ensures .0) in (
+    let from = width * head .loop .n in
+    let line = rw (add-sub-cancel-left from width) at (put .put-line .ensures .0) in (
       search needs,
       search needs,
       search needs,

@@ -7,8 +7,8 @@ use native.Mathlib.Omega.{arith}
 use denote.Ref.{now}
 use lib.ListN.{length}
 use lib.Seq.{sets, length-sets}
-use Rattle.trace_header.specs.Header.{refusalOf}
-use Rattle.unit_packed.specs.Packed.{bytesOf}
+use Rattle.trace_header.specs.Header.{format1, refusalOf}
+use Rattle.unit_packed.specs.Packed.{packedAll}
 use Rattle.rules.specs.PowerOn.{powerOn}
 use Rattle.rules.specs.Runs.{answers}
 use Rattle.unit_stores.proofs.Laws.{then}
@@ -24,30 +24,34 @@ returns c =
     let start = c .before .before .before .args in
     too-short (now (start .trace)) (now (start .out)) (c .if1 .taken)
 
--- the trace that is run
+-- the trace that is run, and the buffer that the text is put into
 abbrev traceOf : tie.After-run → List ℕ
-traceOf c = now (c .before .before .before .before .before .before .args .trace)
+traceOf c = let made = c .before .before in now (made .before .before .before .before .args .trace)
+
+abbrev bufferOf : tie.After-run → List ℕ
+bufferOf c = let made = c .before .before in now (made .before .before .before .before .args .out)
 
 -- what the run comes to, in a buffer with room for the longest trace
 came-to : (c : tie.After-run) → (c .run .result ≡ refusalOf (traceOf c))
     × (refusalOf (traceOf c) ≡ 0
-    → c .run .last .1 .0 ≡ sets (c .before .before .zeros .result) 0 (bytesOf (answers powerOn (cyclesOf (traceOf c)))))
+    → c .run .last .1 .0 ≡ sets (c .before .before .zeros .result) 0 (packedAll (answers powerOn (cyclesOf (traceOf c)))))
 came-to c = roomy (c .run .ensures) (omega (arith, c .before .before .zeros .ensures))
 
 put-head-requires : tie.Need-put-head-requires
 put-head-requires c κs =
     let counted = c .before in
     let ran = counted .before .before .before in
-    let few : givenOf (traceOf ran) ≤ 16000 = fits (traceOf ran) (sym (came-to ran .0) ∙ counted .before .if2 .taken) .0 in
+    let few : givenOf (traceOf ran) ≤ format1 .most = fits (traceOf ran) (sym (came-to ran .0) ∙ counted .before .if2 .taken) .0 in
     (omega (arith, ran .before .before .before .if1 .left), omega (arith, few, counted .count .ensures))
 
 put-lines-requires : tie.Need-put-lines-requires
 put-lines-requires c κs =
-    let counted = c .before .before .before .before .before .before in
+    let headed = c .before .before .before .before in
+    let counted = headed .before .before in
     let ran = counted .before .before .before in
     let t = traceOf ran in
     let none : refusalOf t ≡ 0 = sym (came-to ran .0) ∙ counted .before .if2 .taken in
-    let few : givenOf t ≤ 16000 = fits t none .0 in
+    let few : givenOf t ≤ format1 .most = fits t none .0 in
     let same : length (ran .run .last .1 .0) ≡ length (ran .before .before .zeros .result) =
     ap length (came-to ran .1 none) ∙ simp length-sets in (
       omega (arith, few, same, counted .count .ensures, ran .before .before .zeros .ensures),
@@ -57,27 +61,29 @@ put-lines-requires c κs =
 
 returns-2 : tie.Need-returns-2
 returns-2 c =
-    let counted = c .before .before .before .before .before .before .before .before .before in
+    let listed = c .before .before in
+    let called = listed .before in
+    let headed = called .before .before .before .before in
+    let counted = headed .before .before in
     let ran = counted .before .before .before in
-    let start = ran .before .before .before .before .before .before .args in
-    let t = now (start .trace) in
+    let t = traceOf ran in
     let none : refusalOf t ≡ 0 = sym (came-to ran .0) ∙ counted .before .if2 .taken in
-    let few : givenOf t ≤ 16000 = fits t none .0 in
-    let text = then (c .before .before .before .before .before .before .before .put-head .ensures .0) (c .before .before .put-lines .ensures .0) in
+    let few : givenOf t ≤ format1 .most = fits t none .0 in
+    let text = then (headed .put-head .ensures .0) (listed .put-lines .ensures .0) in
     let whole =
     taken-text t (ran .before .before .zeros .result) (ran .run .last .1 .0) (counted .count .result) none
     (counted .count .ensures) (came-to ran .1 none)
     (omega (arith, few, counted .count .ensures, ran .before .before .zeros .ensures)) in
-    all-put t (now (start .out)) (ran .before .before .before .if1 .left) (omega (arith, few, counted .count .ensures))
+    all-put t (bufferOf ran) (ran .before .before .before .if1 .left) (omega (arith, few, counted .count .ensures))
     (rw whole at text)
 
 returns-3 : tie.Need-returns-3
 returns-3 c =
-    let ran = c .before .before .before .before .before .before in
-    let start = ran .before .before .before .before .before .before .args in
-    let t = now (start .trace) in
-    let some : refusalOf t ≡ 0 → ⊥ = λ (e : refusalOf t ≡ 0). c .before .before .before .before .if2 .left (came-to ran .0 ∙ e) in
-    all-put t (now (start .out)) (ran .before .before .before .if1 .left) (omega arith)
+    let tested = c .before .before .before .before in
+    let ran = tested .before .before in
+    let t = traceOf ran in
+    let some : refusalOf t ≡ 0 → ⊥ = λ (e : refusalOf t ≡ 0). tested .if2 .left (came-to ran .0 ∙ e) in
+    all-put t (bufferOf ran) (ran .before .before .before .if1 .left) (omega arith)
     (rw (printed-refused t some, ← came-to ran .0) (c .before .before .put-refusal .ensures .0))
 
 pub list-spec : {M : Type 1} → statement M

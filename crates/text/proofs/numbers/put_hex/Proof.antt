@@ -1,8 +1,8 @@
--- `text::numbers::put_two` meets its contract: what its calls put, one after the other. Assumes nothing.
+-- `text::numbers::put_hex` meets its contract: what its calls put, one after the other. Assumes nothing.
 use Rattle.unit_stores.proofs.Laws.{then}
 use borrow.Author.Needs.{needs}
-use Rattle.text.proofs.numbers.put_two.Statement.{statement}
-use Rattle.text.proofs.numbers.put_two.Tie as tie
+use Rattle.text.proofs.numbers.put_hex.Statement.{statement}
+use Rattle.text.proofs.numbers.put_hex.Tie as tie
 
 returns : tie.Need-returns
 returns c =
@@ -11,8 +11,8 @@ returns c =
     simp (← at1 .before .before .before .digit-of .ensures, ← at1 .before .before .digit-of2 .ensures)
     (then (at1 .put .ensures .0) (at2 .put2 .ensures .0), search needs)
 
-pub put-two-spec : {M : Type 1} → statement M
-put-two-spec =
+pub put-hex-spec : {M : Type 1} → statement M
+put-hex-spec =
     tie.close
     (tie.spec
     (λ c κs. search needs)
