@@ -12,13 +12,13 @@ use lib.Dec.{eqb, ltb}
 use lib.ListN.{length, getD}
 use lib.Seq.{sets}
 use Rattle.distantarm.specs.Interface.{startNumber, startBytes}
-use Rattle.unit_packed.specs.Packed.{packed}
-use Rattle.trace_reader.specs.Reading.{numberOf as numberOf-step, valuesOf, givenBy, givenAt, afterOf}
+use Rattle.unit_packed.specs.Packed.{width, packed}
+use Rattle.trace_reader.specs.Reading.{stepNumber, stepValues, givenBy, givenAt, afterOf}
 use Rattle.rules.specs.Kinds.{numberOf}
 use Rattle.rules.specs.declared.Cycle.{Cycle}
 use Rattle.rules.specs.declared.Stepped.{Stepped}
 use Rattle.rules.specs.declared.Unit.{Unit as UnitRec}
-use Rattle.unit_bytes.specs.Snapshot.{unitIn, bytesOf}
+use Rattle.unit_bytes.specs.Snapshot.{notesAt, unitSize, LAST_NOTES, unitIn, unitBytes}
 use Rattle.trace_records.specs.Trace.{partOf, cycleOf}
 use Rattle.unit_bytes.specs.Cycled.{cycleNumber, cycleAnswer, cycleBytes, answerBy, bytesBy}
 use Rattle.rules.proofs.Unit.power_on.Kinds as power-on-k
@@ -61,7 +61,7 @@ pub read-at-agrees : (κs : Lfts 1) (a : Dens κs part-k.ps) (number : ℕ) (p :
     (e : AtExit (endedOf 1 record-refusal-k.ps record-refusal-k.r) κs) (f : AtExit (endedOf 1 part-k.ps part-k.r) κs)
     (g : AtExit (endedOf 1 decode-k.ps decode-k.r) κs) (h : AtExit (endedOf 1 read-at-k.ps read-at-k.r) κs)
     → record-refusal.Learnt κs a number e → part.Learnt κs a p f → decode.Learnt κs (p, tt) c g → read-at.Learnt κs a x h
-    → (numberOf-step (x .step) ≡ number) × (valuesOf (x .step) ≡ givenBy (eqb number 0) c)
+    → (stepNumber (x .step) ≡ number) × (stepValues (x .step) ≡ givenBy (eqb number 0) c)
     × (x .next ≡ cond (eqb number 0) (a .1 .0 + 1) (a .1 .0))
 unfolding givenAt afterOf
 read-at-agrees κs a number p c x e f g h refuses shows decodes reads =
@@ -81,12 +81,12 @@ distantarm-list-agrees κs a x y e f p q = (cc, cc)
 -- a unit's bytes at power-on, where there is room
 pub distantarm-power-on-agrees : (κs : Lfts 1) (κ₀ : Lfts 0) (a : Dens κs distantarm-power-on-k.ps) (u : UnitRec) (x : ℕ)
     (e : AtExit (endedOf 0 power-on-k.ps power-on-k.r) κ₀) (f : AtExit (endedOf 1 distantarm-power-on-k.ps distantarm-power-on-k.r) κs)
-    → ltb (length (now (a .0))) 266 ≡ false
+    → ltb (length (now (a .0))) unitSize ≡ false
     → power-on.Learnt κ₀ tt u e → distantarm-power-on.Learnt κs a x f
-    → (x ≡ 0) × (now (f .0) ≡ sets (now (a .0)) 0 (bytesOf u))
+    → (x ≡ 0) × (now (f .0) ≡ sets (now (a .0)) 0 (unitBytes u))
 distantarm-power-on-agrees κs κ₀ a u x e f room p q = (
   q .says ∙ ap startNumber room,
-  q .leaves ∙ ap (λ (b : Bool). startBytes b (now (a .0))) room ∙ ap (λ (v : UnitRec). sets (now (a .0)) 0 (bytesOf v)) (sym p),
+  q .leaves ∙ ap (λ (b : Bool). startBytes b (now (a .0))) room ∙ ap (λ (v : UnitRec). sets (now (a .0)) 0 (unitBytes v)) (sym p),
 )
 
 -- a cycle as `distantarm_cycle` takes it
@@ -96,16 +96,16 @@ handed c = (c .status, (c .read, (c .normal, (c .dma, (c .select, (c .segment, (
 -- a cycle of the unit in the bytes, where there is room and the notes are a unit's
 pub distantarm-cycle-agrees : (κs : Lfts 2) (κ₀ : Lfts 0) (u v : RefT (List ℕ)) (c : Cycle) (s : Stepped) (x : ℕ)
     (e : AtExit (endedOf 0 step-k.ps step-k.r) κ₀) (f : AtExit (endedOf 2 distantarm-cycle-k.ps distantarm-cycle-k.r) κs)
-    → (ltb (length (now u)) 266 || ltb (length (now v)) 6) ≡ false → ltb 15 (getD (now u) 9 0) ≡ false
+    → (ltb (length (now u)) unitSize || ltb (length (now v)) width) ≡ false → ltb LAST_NOTES (getD (now u) notesAt 0) ≡ false
     → step.Learnt κ₀ (unitIn (now u), (c, tt)) s e
     → distantarm-cycle.Learnt κs (u, (v, handed c)) x f
-    → (x ≡ numberOf (s .answer .kind)) × (now (f .0) ≡ sets (now u) 0 (bytesOf (s .unit)))
+    → (x ≡ numberOf (s .answer .kind)) × (now (f .0) ≡ sets (now u) 0 (unitBytes (s .unit)))
     × (now (f .1 .0) ≡ sets (now v) 0 (packed (s .answer)))
 distantarm-cycle-agrees κs κ₀ u v c s x e f room sane p q = (
   q .says ∙ ap (λ (b : Bool). cycleNumber b (now u) c) room ∙ ap (λ (b : Bool). numberOf (answerBy b (now u) c .kind)) sane
       ∙ ap (λ (t : Stepped). numberOf (t .answer .kind)) (sym p),
   q .leaves ∙ ap (λ (b : Bool). cycleBytes b (now u) c) room ∙ ap (λ (b : Bool). bytesBy b (now u) c) sane
-      ∙ ap (λ (t : Stepped). sets (now u) 0 (bytesOf (t .unit))) (sym p),
+      ∙ ap (λ (t : Stepped). sets (now u) 0 (unitBytes (t .unit))) (sym p),
   q .shows ∙ ap (λ (b : Bool). cycleAnswer b (now u) (now v) c) room
       ∙ ap (λ (b : Bool). sets (now v) 0 (packed (answerBy b (now u) c))) sane
       ∙ ap (λ (t : Stepped). sets (now v) 0 (packed (t .answer))) (sym p),

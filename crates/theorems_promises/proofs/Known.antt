@@ -30,7 +30,7 @@ use Rattle.distantarm.proofs.distantarm_cycle.Kinds as distantarm-cycle-k
 use Rattle.distantarm.proofs.distantarm_cycle.Reads as distantarm-cycle
 use Rattle.distantarm.proofs.distantarm_list.Kinds as distantarm-list-k
 use Rattle.distantarm.proofs.distantarm_list.Reads as distantarm-list
-use Rattle.theorems_promises.proofs.Computed.{computed}
+use Rattle.theorems_promises.proofs.Computed.{allComputed}
 
 -- a lent buffer, wherever it stands
 abbrev lent : ℕ × ℕ → ℕ → List ℕ → RefT (List ℕ)
@@ -48,14 +48,14 @@ dataRead = (8, (true, (false, (false, (false, (0, (21, (0, (false, tt)))))))))
 pub distantarm-cycle-known : (κs : Lfts 2) (p q : ℕ × ℕ) (g h x : ℕ) (e : AtExit (endedOf 2 distantarm-cycle-k.ps distantarm-cycle-k.r) κs)
     → distantarm-cycle.Learnt κs (lent p g (turnedOn 1), (lent q h (replicate 7 9), dataRead)) x e
     → (x ≡ 0) × (now (e .0) ≡ turnedOn 129) × (now (e .1 .0) ≡ 84 ∷ 0 ∷ 35 ∷ 38 ∷ 1 ∷ 0 ∷ 9 ∷ [])
-unfolding computed
+unfolding allComputed
 distantarm-cycle-known κs p q g h x e l = (l .says, l .leaves, l .shows)
 
 -- notes that no unit has: refusal 2, and every byte of the unit is left
 pub distantarm-cycle-strange : (κs : Lfts 2) (p q : ℕ × ℕ) (g h x : ℕ) (e : AtExit (endedOf 2 distantarm-cycle-k.ps distantarm-cycle-k.r) κs)
     → distantarm-cycle.Learnt κs (lent p g (replicate 9 0 ++ (16 ∷ replicate 256 0)), (lent q h (replicate 6 9), dataRead)) x e
     → (x ≡ 2) × (now (e .0) ≡ replicate 9 0 ++ (16 ∷ replicate 256 0)) × (now (e .1 .0) ≡ 88 ∷ 2 ∷ 0 ∷ 0 ∷ 0 ∷ 0 ∷ [])
-unfolding computed
+unfolding allComputed
 distantarm-cycle-strange κs p q g h x e l = (l .says, l .leaves, l .shows)
 
 -- the least room, and a byte less of either
@@ -66,7 +66,7 @@ pub distantarm-cycle-room : (κs : Lfts 2) (p q : ℕ × ℕ) (g h x y z : ℕ)
     → distantarm-cycle.Learnt κs (lent p g (replicate 266 0), (lent q h (replicate 5 9), dataRead)) z f
     → (x ≡ 0) × ((y ≡ 255) × (now (e .0) ≡ replicate 265 0) × (now (e .1 .0) ≡ replicate 6 9))
     × ((z ≡ 255) × (now (f .0) ≡ replicate 266 0) × (now (f .1 .0) ≡ replicate 5 9))
-unfolding computed
+unfolding allComputed
 distantarm-cycle-room κs p q g h x y z d e f k l m = (k .says, (l .says, l .leaves, l .shows), (m .says, m .leaves, m .shows))
 
 -- the text of the sample
@@ -102,7 +102,7 @@ pub distantarm-list-known : (κs : Lfts 2) (p q : ℕ × ℕ) (g h x : ℕ) (l :
     → distantarm-list.Learnt κs (lent p g sample, (lent q h l, tt)) x e
     → (ltb (length l) 400012 ≡ false → (x ≡ 152) × (now (e .1 .0) ≡ sets l 0 text))
     × (ltb (length l) 400012 ≡ true → (x ≡ 0) × (now (e .1 .0) ≡ l))
-unfolding computed
+unfolding allComputed
 distantarm-list-known κs p q g h x l e s = (
   λ wide. (s .count ∙ ap (λ (b : Bool). lengthOf b sample) wide, s .text ∙ ap (λ (b : Bool). filled b sample l) wide),
   λ short. (s .count ∙ ap (λ (b : Bool). lengthOf b sample) short, s .text ∙ ap (λ (b : Bool). filled b sample l) short),
@@ -116,20 +116,20 @@ pub distantarm-power-on-known : (κs : Lfts 1) (p : ℕ × ℕ) (g x y z : ℕ)
     → distantarm-power-on.Learnt κs (lent p g (replicate 265 9), tt) z f
     → ((x ≡ 0) × (now (d .0) ≡ replicate 266 0 ++ (9 ∷ []))) × ((y ≡ 0) × (now (e .0) ≡ replicate 266 0))
     × ((z ≡ 255) × (now (f .0) ≡ replicate 265 9))
-unfolding computed
+unfolding allComputed
 distantarm-power-on-known κs p g x y z d e f k l m = ((k .says, k .leaves), (l .says, l .leaves), (m .says, m .leaves))
 
 -- record 5 of the sample, and none past its count
 pub shown-at-known : (κs : Lfts 1) (p : ℕ × ℕ) (g : ℕ) (x y : RefT (List ℕ)) (e f : AtExit (endedOf 1 shown-at-k.ps shown-at-k.r) κs)
     → shown-at.Learnt κs (lent p g sample, (5, tt)) x e → shown-at.Learnt κs (lent p g sample, (9, tt)) y f
     → (now x ≡ 24 ∷ 0 ∷ 21 ∷ 0 ∷ []) × (x .ptr ≡ (p .0, 27 + p .1)) × (now y ≡ []) × (y .ptr ≡ (p .0, 0 + p .1))
-unfolding computed
+unfolding allComputed
 shown-at-known κs p g x y e f l m = (l .0, l .1, m .0, m .1)
 
 pub read-at-known : (κs : Lfts 1) (p : ℕ × ℕ) (g : ℕ) (x y : Found) (e f : AtExit (endedOf 1 read-at-k.ps read-at-k.r) κs)
     → read-at.Learnt κs (lent p g sample, (5, tt)) x e → read-at.Learnt κs (lent p g sample, (9, tt)) y f
     → (x ≡ record { step = Record (cycle false true false 8 0 21); next = 6 }) × (y ≡ record { step = No 9; next = 9 })
-unfolding computed
+unfolding allComputed
 read-at-known κs p g x y e f l m = (
   finds-only sample 5 x (record { step = Record (cycle false true false 8 0 21); next = 6 }) l ((refl, refl), refl),
   finds-only sample 9 y (record { step = No 9; next = 9 }) m ((refl, refl), refl),
@@ -149,5 +149,5 @@ pub step-by-lending-known : (κs : Lfts 0) (s : Stepped) (e : AtExit (endedOf 0 
         byte = 0;
       };
     }
-unfolding computed
+unfolding allComputed
 step-by-lending-known κs s e l = l
