@@ -23,9 +23,9 @@ pub fits : (t : List ℕ) → refusalOf t ≡ 0 → (givenOf t ≤ format1 .most
 fits t e = rw (all-given format1 t e) (taken format1 t e)
 
 -- what the two tests and the answer come to
-pub ends : (t l m : List ℕ) (number : ℕ) (r n : Bool) → traceRefused t ≡ r → narrow t l ≡ n
+pub run-ends : (t l m : List ℕ) (number : ℕ) (r n : Bool) → traceRefused t ≡ r → narrow t l ≡ n
     → number ≡ numberBy r n (refusalOf t) → m ≡ bufferBy r n t l → Ran t l m number
-ends t l m number r n e f says leaves = record { says = rw (e, f) says; leaves = rw (e, f) leaves }
+run-ends t l m number r n e f says leaves = record { says = rw (e, f) says; leaves = rw (e, f) leaves }
 
 -- a buffer with room for the longest trace: the number is the trace's own, and the answers of a trace that is taken stand in the buffer
 module _ {t l m : List ℕ} {number : ℕ} (ran : Ran t l m number) (long : answersRoom ≤ length l) where
@@ -43,5 +43,5 @@ module _ {t l m : List ℕ} {number : ℕ} (ran : Ran t l m number) (long : answ
         λ (z : refusalOf t ≡ 0). rw (e, wide z) at (ran .leaves),
       )
 
-  pub roomy : (number ≡ refusalOf t) × (refusalOf t ≡ 0 → m ≡ sets l 0 (packedAll (answers powerOn (cyclesOf t))))
-  roomy = by (traceRefused t) refl
+  pub with-room : (number ≡ refusalOf t) × (refusalOf t ≡ 0 → m ≡ sets l 0 (packedAll (answers powerOn (cyclesOf t))))
+  with-room = by (traceRefused t) refl

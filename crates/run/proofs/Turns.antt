@@ -32,16 +32,16 @@ unfolding final
 final-more [] u c = refl
 final-more (x ∷ cs) u c = final-more cs (after u x) c
 
-bytes-more : (rest : List Answer) (a : Answer) → packedAll (rest ++ (a ∷ [])) ≡ packedAll rest ++ packed a
+packed-more : (rest : List Answer) (a : Answer) → packedAll (rest ++ (a ∷ [])) ≡ packedAll rest ++ packed a
 unfolding packedAll packed
-bytes-more [] a = refl
-bytes-more (x ∷ rest) a = ap (λ (r : List ℕ). packed x ++ r) (bytes-more rest a)
+packed-more [] a = refl
+packed-more (x ∷ rest) a = ap (λ (r : List ℕ). packed x ++ r) (packed-more rest a)
 
 -- ---- lengths
-pub bytes-length : (cs : List Cycle) (u : Unit) → length (packedAll (answers u cs)) ≡ width * length cs
+pub packed-length : (cs : List Cycle) (u : Unit) → length (packedAll (answers u cs)) ≡ width * length cs
 unfolding packedAll packed answers
-bytes-length [] u = refl
-bytes-length (c ∷ cs) u = let h : length (packedAll (answers (after u c) cs)) ≡ width * length cs = bytes-length cs (after u c) in omega (arith, h)
+packed-length [] u = refl
+packed-length (c ∷ cs) u = let h : length (packedAll (answers (after u c) cs)) ≡ width * length cs = packed-length cs (after u c) in omega (arith, h)
 
 pub cycles-length : (t : List ℕ) (n : ℕ) → length (cyclesTo t n) ≡ n
 unfolding cyclesTo
@@ -62,10 +62,10 @@ unfolding ranTo cyclesTo
 turn-bytes t o n =
     let cs : List Cycle = cyclesTo t n in
     let a : Answer = decision (unitAt t n) (cycleAt t n) .answer in
-    let long : length (packedAll (answers powerOn cs)) ≡ width * n = bytes-length cs powerOn ∙ ap (λ (k : ℕ). width * k) (cycles-length t n) in
+    let long : length (packedAll (answers powerOn cs)) ≡ width * n = packed-length cs powerOn ∙ ap (λ (k : ℕ). width * k) (cycles-length t n) in
     ap (λ (k : ℕ). sets (ranTo t n o) k (packed a)) (omega (arith, long))
     ∙ sets-append o 0 (packedAll (answers powerOn cs)) (packed a)
-    ∙ ap (λ (bs : List ℕ). sets o 0 bs) (sym (ap packedAll (answers-more cs powerOn (cycleAt t n)) ∙ bytes-more (answers powerOn cs) a))
+    ∙ ap (λ (bs : List ℕ). sets o 0 bs) (sym (ap packedAll (answers-more cs powerOn (cycleAt t n)) ∙ packed-more (answers powerOn cs) a))
     ∙ ap (λ (k : ℕ). sets o 0 (packedAll (answers powerOn (cyclesTo t k)))) (sym (add-one n))
 
 turn-unit : (t : List ℕ) (n : ℕ) → after (unitAt t n) (cycleAt t n) ≡ unitAt t (n + 1)
@@ -73,11 +73,11 @@ unfolding cyclesTo
 turn-unit t n = sym (final-more (cyclesTo t n) powerOn (cycleAt t n)) ∙ ap (λ (k : ℕ). unitAt t k) (sym (add-one n))
 
 -- what is decided in the turn, applied
-pub turned : (t : List ℕ) (n : ℕ) (u : Unit) (p : Decision) (l : List Descriptor) → u ≡ unitAt t n → p ≡ decision u (cycleAt t n)
+pub unit-turned : (t : List ℕ) (n : ℕ) (u : Unit) (p : Decision) (l : List Descriptor) → u ≡ unitAt t n → p ≡ decision u (cycleAt t n)
     → l ≡ changed (p .change) (place u (cycleAt t n)) (u .table)
     → _≡_ {A = Unit} (record { table = l; registers = p .registers }) (unitAt t (n + 1))
 unfolding after
-turned t n u p l e q h =
+unit-turned t n u p l e q h =
     let c : Cycle = cycleAt t n in
     let f : List Descriptor → Decision → Unit = λ m d. record { table = m; registers = d .registers } in
     ap (λ (m : List Descriptor). f m p) h
@@ -86,9 +86,9 @@ turned t n u p l e q h =
     ∙ turn-unit t n
 
 -- and its answer, stored
-pub stored : (t o out : List ℕ) (n : ℕ) (u : Unit) (p : Decision) → out ≡ ranTo t n o → u ≡ unitAt t n → p ≡ decision u (cycleAt t n)
+pub answer-stored : (t o out : List ℕ) (n : ℕ) (u : Unit) (p : Decision) → out ≡ ranTo t n o → u ≡ unitAt t n → p ≡ decision u (cycleAt t n)
     → sets out (width * n) (packed (p .answer)) ≡ ranTo t (n + 1) o
-stored t o out n u p h e q =
+answer-stored t o out n u p h e q =
     ap (λ (m : List ℕ). sets m (width * n) (packed (p .answer))) h
     ∙ ap (λ (d : Decision). sets (ranTo t n o) (width * n) (packed (d .answer))) q
     ∙ ap (λ (v : Unit). sets (ranTo t n o) (width * n) (packed (decision v (cycleAt t n) .answer))) e

@@ -16,7 +16,7 @@ use Rattle.rules.specs.declared.Answer.{Answer}
 use Rattle.rules.specs.declared.Cycle.{Cycle}
 use Rattle.rules.specs.declared.Unit.{Unit}
 use Rattle.unit_stores.proofs.Bits.{flag-found}
-use Rattle.run.proofs.Turns.{bytes-length, cycles-length}
+use Rattle.run.proofs.Turns.{packed-length, cycles-length}
 use Rattle.trace_records.specs.Trace.{cyclesTo}
 use Rattle.text.specs.Text.{answerLine, answerLines}
 
@@ -46,7 +46,7 @@ ran-back t l n h =
     let cs : List Cycle = cyclesTo t n in
     let xs : List Answer = answers powerOn cs in
     let count : length xs ≡ n = answers-length powerOn cs ∙ cycles-length t n in
-    let long : length (packedAll xs) ≡ width * length cs = bytes-length cs powerOn in
+    let long : length (packedAll xs) ≡ width * length cs = packed-length cs powerOn in
     let fits : 0 + length (packedAll xs) ≤ length l = omega (arith, cycles-length t n) in
     ap (λ (p : List ℕ). linesOf 0 n p) (sets-eq (packedAll xs) l 0 fits)
     ∙ ap (λ (k : ℕ). linesOf 0 k (packedAll xs ++ drop (0 + length (packedAll xs)) l)) (sym count)

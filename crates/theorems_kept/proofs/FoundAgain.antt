@@ -21,7 +21,7 @@ use Rattle.unit_stores.specs.Word.{wordAt}
 use Rattle.unit_bytes.specs.Snapshot.{descriptorSize, segments, descriptorAt, unitSize, LAST_NOTES}
 use Rattle.unit_bytes.specs.Snapshot.{descriptorIn, tableIn, notesIn, registersIn, unitIn}
 use Rattle.unit_bytes.specs.Snapshot.{descriptorBytes, tableBytes, notesByte, registerBytes, unitBytes}
-use Rattle.unit_bytes.proofs.Tables.{bytes-length}
+use Rattle.unit_bytes.proofs.Tables.{table-length}
 use Rattle.unit_bytes.specs.Cycled.{strange}
 use Rattle.theorems_kept.specs.Kept.{FoundAgain}
 
@@ -77,7 +77,7 @@ module _ (l : List ℕ) (u : Unit) (room : unitSize ≤ length l) (size : length
   shape : sets l 0 (unitBytes u) ≡ registerBytes (u .registers) ++ tableBytes (u .table) ++ rest
   unfolding unitBytes registerBytes rest
   shape =
-      let long : length (tableBytes (u .table)) ≡ descriptorSize * length (u .table) = bytes-length (u .table) in
+      let long : length (tableBytes (u .table)) ≡ descriptorSize * length (u .table) = table-length (u .table) in
       sets-eq (unitBytes u) l 0 (omega arith) ∙ append-assoc (registerBytes (u .registers)) (tableBytes (u .table)) rest
 
   pub never-strange : strange (sets l 0 (unitBytes u)) ≡ false

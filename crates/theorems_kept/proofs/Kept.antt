@@ -17,7 +17,7 @@ use Rattle.rules.specs.declared.Unit.{Unit}
 use Rattle.theorems_runs.proofs.Refusal.{refusal-leaves}
 use Rattle.theorems_runs.proofs.Undamaged.{size-after}
 use Rattle.unit_bytes.specs.Snapshot.{notesAt, descriptorSize, segments, unitSize, LAST_NOTES, unitIn, tableBytes, registerBytes, unitBytes}
-use Rattle.unit_bytes.proofs.Tables.{bytes-length}
+use Rattle.unit_bytes.proofs.Tables.{table-length}
 use Rattle.unit_bytes.specs.Cycled.{strange, answerBy, answerOf, bytesBy, bytesAfter}
 use Rattle.theorems_kept.specs.Kept.{Bytes, RefusalKeeps, calls, left, CallsAreTheRun}
 use Rattle.theorems_kept.proofs.PutBack.{put-back}
@@ -59,7 +59,7 @@ put-over l a b room same =
 -- the bytes of a unit with 64 descriptors
 long : (u : Unit) → length (u .table) ≡ segments → length (unitBytes u) ≡ unitSize
 unfolding unitBytes registerBytes
-long u size = let h : length (tableBytes (u .table)) ≡ descriptorSize * length (u .table) = bytes-length (u .table) in omega arith
+long u size = let h : length (tableBytes (u .table)) ≡ descriptorSize * length (u .table) = table-length (u .table) in omega arith
 
 pub calls-are-the-run : CallsAreTheRun
 unfolding calls left answers final

@@ -34,15 +34,15 @@ pub stays : (t : List ℕ) (n : ℕ) → (recordRefusalOf t n ≡ 0 → ⊥) →
 unfolding givenAt afterOf
 stays t n ne = (simp (ne-eqb _ 0 ne), simp (ne-eqb _ 0 ne))
 
-abbrev pub at : RefT (List ℕ) → ℕ → Reader
-at t n = record { trace = t; next = n }
+abbrev pub readerAt : RefT (List ℕ) → ℕ → Reader
+readerAt t n = record { trace = t; next = n }
 
 -- asked so many times, up to its count, a reader stands at that number and has given so many cycles
-pub gives-all : (t : RefT (List ℕ)) (k : ℕ) → k ≤ givenOf (now t) → (readerAfter t k ≡ at t k) × (givenTo t k ≡ cyclesTo (now t) k)
+pub gives-all : (t : RefT (List ℕ)) (k : ℕ) → k ≤ givenOf (now t) → (readerAfter t k ≡ readerAt t k) × (givenTo t k ≡ cyclesTo (now t) k)
 unfolding readerAfter givenTo cyclesTo
 gives-all t zero l = (refl, refl)
 gives-all t (suc k) l =
     let before = gives-all t k (omega (arith, l)) in
     let here = gives (now t) k (omega (arith, l)) in
     let given = ap (λ (r : Reader). givenAt (now (r .trace)) (r .next)) (before .0) ∙ here .1 in
-    (ap movedOf (before .0) ∙ ap (at t) (here .2 ∙ add-one k), simp (before .1, given))
+    (ap movedOf (before .0) ∙ ap (readerAt t) (here .2 ∙ add-one k), simp (before .1, given))

@@ -4,7 +4,7 @@ use mathlib.Core.Path.{_≡_, refl}
 use Prim.Native.Nat.{ℕ}
 use Rattle.rules.specs.declared.Cycle.{Cycle}
 use Rattle.trace_records.specs.Computed.{traceComputed}
-use Rattle.trace_records.specs.Rows.{givenRows, RecordRow, recordRow, recordRows, cycleRows}
+use Rattle.trace_records.specs.Rows.{givenRows, RecordRow, recordRow, recordRows, decodedRows}
 use Rattle.trace_records.specs.Trace.{givenOf, recordRefusalOf, partOf, partStart, cycleOf}
 
 pub given-rows-hold : map (λ (r : List ℕ × ℕ). givenOf (r .0)) givenRows ≡ map (λ (r : List ℕ × ℕ). r .1) givenRows
@@ -19,6 +19,6 @@ pub record-rows-hold : map (λ (r : RecordRow). recordFound (r .trace) (r .n)) r
 unfolding traceComputed
 record-rows-hold = refl
 
-pub cycle-rows-hold : map (λ (r : List ℕ × Cycle). cycleOf (r .0)) cycleRows ≡ map (λ (r : List ℕ × Cycle). r .1) cycleRows
+pub decoded-rows-hold : map (λ (r : List ℕ × Cycle). cycleOf (r .0)) decodedRows ≡ map (λ (r : List ℕ × Cycle). r .1) decodedRows
 unfolding traceComputed
-cycle-rows-hold = refl
+decoded-rows-hold = refl

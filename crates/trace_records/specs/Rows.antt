@@ -37,9 +37,9 @@ recordRows =
     ∷ []
 
 -- a part of a trace, and its cycle
-abbrev pub cycleRow : (part : List ℕ) → (status : ℕ) → (read normal dma select : Bool) → (segment : ℕ) → (reset : Bool) → (offset byte : ℕ)
+abbrev pub decodedRow : (part : List ℕ) → (status : ℕ) → (read normal dma select : Bool) → (segment : ℕ) → (reset : Bool) → (offset byte : ℕ)
     → List ℕ × Cycle
-cycleRow part status read normal dma select segment reset offset byte = (
+decodedRow part status read normal dma select segment reset offset byte = (
   part,
   record {
     status = status;
@@ -54,32 +54,32 @@ cycleRow part status read normal dma select segment reset offset byte = (
   },
 )
 
-abbrev pub cycleRows : List (List ℕ × Cycle)
-cycleRows =
+abbrev pub decodedRows : List (List ℕ × Cycle)
+decodedRows =
     -- nothing set
-    cycleRow (0 ∷ 0 ∷ 0 ∷ 0 ∷ []) 0 false false false false 0 false 0 0
+    decodedRow (0 ∷ 0 ∷ 0 ∷ 0 ∷ []) 0 false false false false 0 false 0 0
     -- byte 0, bit by bit: status, read, normal mode, DMA, select
-    ∷ cycleRow (1 ∷ 0 ∷ 0 ∷ 0 ∷ []) 1 false false false false 0 false 0 0
-    ∷ cycleRow (2 ∷ 0 ∷ 0 ∷ 0 ∷ []) 2 false false false false 0 false 0 0
-    ∷ cycleRow (4 ∷ 0 ∷ 0 ∷ 0 ∷ []) 4 false false false false 0 false 0 0
-    ∷ cycleRow (8 ∷ 0 ∷ 0 ∷ 0 ∷ []) 8 false false false false 0 false 0 0
-    ∷ cycleRow (16 ∷ 0 ∷ 0 ∷ 0 ∷ []) 0 true false false false 0 false 0 0
-    ∷ cycleRow (32 ∷ 0 ∷ 0 ∷ 0 ∷ []) 0 false true false false 0 false 0 0
-    ∷ cycleRow (64 ∷ 0 ∷ 0 ∷ 0 ∷ []) 0 false false true false 0 false 0 0
-    ∷ cycleRow (128 ∷ 0 ∷ 0 ∷ 0 ∷ []) 0 false false false true 0 false 0 0
+    ∷ decodedRow (1 ∷ 0 ∷ 0 ∷ 0 ∷ []) 1 false false false false 0 false 0 0
+    ∷ decodedRow (2 ∷ 0 ∷ 0 ∷ 0 ∷ []) 2 false false false false 0 false 0 0
+    ∷ decodedRow (4 ∷ 0 ∷ 0 ∷ 0 ∷ []) 4 false false false false 0 false 0 0
+    ∷ decodedRow (8 ∷ 0 ∷ 0 ∷ 0 ∷ []) 8 false false false false 0 false 0 0
+    ∷ decodedRow (16 ∷ 0 ∷ 0 ∷ 0 ∷ []) 0 true false false false 0 false 0 0
+    ∷ decodedRow (32 ∷ 0 ∷ 0 ∷ 0 ∷ []) 0 false true false false 0 false 0 0
+    ∷ decodedRow (64 ∷ 0 ∷ 0 ∷ 0 ∷ []) 0 false false true false 0 false 0 0
+    ∷ decodedRow (128 ∷ 0 ∷ 0 ∷ 0 ∷ []) 0 false false false true 0 false 0 0
     -- byte 1: the segment, and the reset line
-    ∷ cycleRow (0 ∷ 1 ∷ 0 ∷ 0 ∷ []) 0 false false false false 1 false 0 0
-    ∷ cycleRow (0 ∷ 64 ∷ 0 ∷ 0 ∷ []) 0 false false false false 64 false 0 0
-    ∷ cycleRow (0 ∷ 127 ∷ 0 ∷ 0 ∷ []) 0 false false false false 127 false 0 0
-    ∷ cycleRow (0 ∷ 128 ∷ 0 ∷ 0 ∷ []) 0 false false false false 0 true 0 0
+    ∷ decodedRow (0 ∷ 1 ∷ 0 ∷ 0 ∷ []) 0 false false false false 1 false 0 0
+    ∷ decodedRow (0 ∷ 64 ∷ 0 ∷ 0 ∷ []) 0 false false false false 64 false 0 0
+    ∷ decodedRow (0 ∷ 127 ∷ 0 ∷ 0 ∷ []) 0 false false false false 127 false 0 0
+    ∷ decodedRow (0 ∷ 128 ∷ 0 ∷ 0 ∷ []) 0 false false false false 0 true 0 0
     -- byte 2: the byte of the address phase; byte 3: "data, any value"
-    ∷ cycleRow (0 ∷ 0 ∷ 255 ∷ 0 ∷ []) 0 false false false false 0 false 255 0
-    ∷ cycleRow (0 ∷ 0 ∷ 0 ∷ 255 ∷ []) 0 false false false false 0 false 0 255
+    ∷ decodedRow (0 ∷ 0 ∷ 255 ∷ 0 ∷ []) 0 false false false false 0 false 255 0
+    ∷ decodedRow (0 ∷ 0 ∷ 0 ∷ 255 ∷ []) 0 false false false false 0 false 0 255
     -- a value of its own in each field
-    ∷ cycleRow (218 ∷ 133 ∷ 21 ∷ 35 ∷ []) 10 true false true true 5 true 21 35
-    ∷ cycleRow (45 ∷ 65 ∷ 147 ∷ 7 ∷ []) 13 false true false false 65 false 147 7
+    ∷ decodedRow (218 ∷ 133 ∷ 21 ∷ 35 ∷ []) 10 true false true true 5 true 21 35
+    ∷ decodedRow (45 ∷ 65 ∷ 147 ∷ 7 ∷ []) 13 false true false false 65 false 147 7
     -- missing bytes count as 0, and bytes past the fourth are not read
-    ∷ cycleRow ([]) 0 false false false false 0 false 0 0
-    ∷ cycleRow (24 ∷ 3 ∷ []) 8 true false false false 3 false 0 0
-    ∷ cycleRow (0 ∷ 0 ∷ 0 ∷ 0 ∷ 255 ∷ []) 0 false false false false 0 false 0 0
+    ∷ decodedRow ([]) 0 false false false false 0 false 0 0
+    ∷ decodedRow (24 ∷ 3 ∷ []) 8 true false false false 3 false 0 0
+    ∷ decodedRow (0 ∷ 0 ∷ 0 ∷ 0 ∷ 255 ∷ []) 0 false false false false 0 false 0 0
     ∷ []

@@ -12,9 +12,9 @@ use Rattle.rules.specs.declared.Cycle.{Cycle}
 use Rattle.unit_bytes.specs.Cycled.{strange, answerBy, bytesBy, Cycled}
 
 -- a cycle with room, by the test of its notes; the answer a was shown
-pub turned : {c : Cycle} {l o m p : List ℕ} {number : ℕ} {a : Answer} (b : Bool) → strange l ≡ b → a ≡ answerBy b l c
+pub cycle-ends : {c : Cycle} {l o m p : List ℕ} {number : ℕ} {a : Answer} (b : Bool) → strange l ≡ b → a ≡ answerBy b l c
     → number ≡ numberOf (a .kind) → p ≡ sets o 0 (packed a) → m ≡ bytesBy b l c → Cycled false c l o m p number
-turned {c} {l} {o} b e said says shows leaves =
+cycle-ends {c} {l} {o} b e said says shows leaves =
     let same = said ∙ ap (λ (s : Bool). answerBy s l c) (sym e) in
     record {
       says = says ∙ ap (λ (x : Answer). numberOf (x .kind)) same;

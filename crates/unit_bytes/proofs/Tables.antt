@@ -11,31 +11,31 @@ use Rattle.rules.specs.declared.Descriptor.{Descriptor}
 use Rattle.unit_stores.proofs.Laws.{sets-append}
 use Rattle.unit_bytes.specs.Snapshot.{tableAt, descriptorSize, descriptorAt, descriptorIn, tableIn, descriptorBytes, tableBytes}
 
-pub more-bytes : (t : List Descriptor) (d : Descriptor) → tableBytes (t ++ (d ∷ [])) ≡ tableBytes t ++ descriptorBytes d
+pub table-more : (t : List Descriptor) (d : Descriptor) → tableBytes (t ++ (d ∷ [])) ≡ tableBytes t ++ descriptorBytes d
 unfolding tableBytes descriptorBytes
-more-bytes [] d = refl
-more-bytes (x ∷ t) d = ap (λ (r : List ℕ). descriptorBytes x ++ r) (more-bytes t d)
+table-more [] d = refl
+table-more (x ∷ t) d = ap (λ (r : List ℕ). descriptorBytes x ++ r) (table-more t d)
 
-pub bytes-length : (t : List Descriptor) → length (tableBytes t) ≡ descriptorSize * length t
+pub table-length : (t : List Descriptor) → length (tableBytes t) ≡ descriptorSize * length t
 unfolding tableBytes descriptorBytes
-bytes-length [] = refl
-bytes-length (x ∷ t) = let h : length (tableBytes t) ≡ descriptorSize * length t = bytes-length t in omega (arith, h)
+table-length [] = refl
+table-length (x ∷ t) = let h : length (tableBytes t) ≡ descriptorSize * length t = table-length t in omega (arith, h)
 
 -- one descriptor more is stored
-pub stored : (o : List ℕ) (t : List Descriptor) (i : ℕ) → i < length t
+pub descriptor-stored : (o : List ℕ) (t : List Descriptor) (i : ℕ) → i < length t
     → sets (sets o tableAt (tableBytes (take i t))) (descriptorAt i) (descriptorBytes (getD t i blank))
     ≡ sets o tableAt (tableBytes (take (suc i) t))
-stored o t i h =
+descriptor-stored o t i h =
     let d : Descriptor = getD t i blank in
     let first : List ℕ = tableBytes (take i t) in
-    let long : length first ≡ descriptorSize * i = bytes-length (take i t) ∙ ap (λ (k : ℕ). descriptorSize * k) (length-take-le i t (omega arith)) in
+    let long : length first ≡ descriptorSize * i = table-length (take i t) ∙ ap (λ (k : ℕ). descriptorSize * k) (length-take-le i t (omega arith)) in
     ap (λ (k : ℕ). sets (sets o tableAt first) (tableAt + k) (descriptorBytes d)) (sym long)
     ∙ sets-append o tableAt first (descriptorBytes d)
-    ∙ ap (sets o tableAt) (sym (ap tableBytes (take-suc t i blank h) ∙ more-bytes (take i t) d))
+    ∙ ap (sets o tableAt) (sym (ap tableBytes (take-suc t i blank h) ∙ table-more (take i t) d))
 
 -- one descriptor more is read
-pub read : (l : List ℕ) (t : List Descriptor) (i : ℕ) → i < length t → take i t ≡ tableIn l i
+pub descriptor-read : (l : List ℕ) (t : List Descriptor) (i : ℕ) → i < length t → take i t ≡ tableIn l i
     → take (suc i) (set t i (descriptorIn l (descriptorAt i))) ≡ tableIn l (suc i)
 unfolding tableIn
-read l t i h e =
+descriptor-read l t i h e =
     take-suc-set t i (descriptorIn l (descriptorAt i)) h ∙ ap (λ (r : List Descriptor). r ++ (descriptorIn l (descriptorAt i) ∷ [])) e

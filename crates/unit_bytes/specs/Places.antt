@@ -1,5 +1,5 @@
 -- Where each field of a unit stands among its bytes, and each note in its byte: one table, with the numbers of include/distantarm.h.
--- The unit `sample` has a value of its own in each field. `Places` (proofs/) shows that the rows hold both ways, of the bytes of a unit and
+-- The unit `sampleUnit` has a value of its own in each field. `Places` (proofs/) shows that the rows hold both ways, of the bytes of a unit and
 -- of the unit in bytes.
 use mathlib.Core.Bool.{Bool, true, false, _&&_}
 use mathlib.Core.List.{List, [], _∷_, map}
@@ -15,8 +15,8 @@ use Rattle.unit_bytes.specs.Snapshot.{segments, unitSize, notesIn, unitI
 
 -- ---- the unit that the rows speak of: descriptors 0, 1 and 63, and every register, with values that differ
 
-abbrev pub sample : Unit
-sample = record {
+abbrev pub sampleUnit : Unit
+sampleUnit = record {
   table = set (set (set (replicate segments blank) 0 (segment 0xA1A2 0xA3 0xA4)) 1 (segment 0xB1B2 0xB3 0xB4)) 63 (segment 0xC1C2 0xC3 0xC4);
   registers = record {
     control = record { mr = 0xD0; sar = 0x21; dscr = 0x02 };
@@ -83,14 +83,14 @@ rowBytes (r ∷ rs) = set (rowBytes rs) (r .at) (r .byte)
 
 -- the byte stands there in the bytes of the unit, and the field has it in the unit of the rows' bytes
 abbrev byteRowHolds : ByteRow → Bool
-byteRowHolds r = eqb (getD (unitBytes sample) (r .at) 0) (r .byte) && eqb (r .field (unitIn (rowBytes byteRows))) (r .byte)
+byteRowHolds r = eqb (getD (unitBytes sampleUnit) (r .at) 0) (r .byte) && eqb (r .field (unitIn (rowBytes byteRows))) (r .byte)
 
 abbrev byteRowsHold : List ByteRow → Bool
 byteRowsHold [] = true
 byteRowsHold (r ∷ rs) = byteRowHolds r && byteRowsHold rs
 
 abbrev pub laidOut : Bool
-laidOut = eqb (length (unitBytes sample)) 266 && byteRowsHold byteRows
+laidOut = eqb (length (unitBytes sampleUnit)) 266 && byteRowsHold byteRows
 
 -- ---- the notes' bits: none, each alone, and all
 

@@ -11,7 +11,7 @@ use Rattle.trace_header.specs.Header.{refusalOf}
 use Rattle.unit_packed.specs.Packed.{width}
 use Rattle.unit_stores.specs.Put.{NO_ROOM}
 use Rattle.run.specs.Run.{ranTo, traceRefused, narrow}
-use Rattle.run.proofs.Ends.{fits, ends}
+use Rattle.run.proofs.Ends.{fits, run-ends}
 use borrow.Author.Needs.{needs}
 use Rattle.run.proofs.run.Statement.{statement}
 use Rattle.run.proofs.run.Tie as tie
@@ -20,7 +20,7 @@ returns : tie.Need-returns
 returns c =
     let start = c .before .before .before .before .args in
     let said = c .before .refusal in
-    ends (now (start .trace)) (now (start .out)) (now (start .out)) (said .result) true (narrow (now (start .trace)) (now (start .out)))
+    run-ends (now (start .trace)) (now (start .out)) (now (start .out)) (said .result) true (narrow (now (start .trace)) (now (start .out)))
     (rw (said .ensures) at (c .if1 .taken)) refl (said .ensures) refl
 
 -- the lent trace and buffer as they stood at the start, of a place where the records have been counted
@@ -43,7 +43,7 @@ mul-narrow c = let h = fits (traceAt c) (taken-at c) in search (needs, h .0, c .
 returns-2 : tie.Need-returns-2
 returns-2 c =
     let counted = c .before in
-    ends (traceAt counted) (bufferAt counted) (bufferAt counted) NO_ROOM false true (passed counted)
+    run-ends (traceAt counted) (bufferAt counted) (bufferAt counted) NO_ROOM false true (passed counted)
     (rw (counted .count .ensures) at (c .if2 .taken)) refl refl
 
 run-to-requires : tie.Need-run-to-requires
@@ -62,7 +62,7 @@ returns-3 c =
     let counted = tested .before in
     let t = traceAt counted in
     let l = bufferAt counted in
-    ends t l (ran .run-to .last .1 .1 .0) 0 false false (passed counted)
+    run-ends t l (ran .run-to .last .1 .1 .0) 0 false false (passed counted)
     (rw (counted .count .ensures) at (tested .if2 .left)) refl
     (ran .run-to .ensures ∙ ap (λ (k : ℕ). ranTo t k l) (counted .count .ensures))
 

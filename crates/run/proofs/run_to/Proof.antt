@@ -18,7 +18,7 @@ use Rattle.rules.specs.declared.Descriptor.{Descriptor}
 use Rattle.rules.specs.declared.Unit.{Unit}
 use Rattle.trace_records.specs.Trace.{cyclesTo}
 use Rattle.run.specs.Run.{ranTo}
-use Rattle.run.proofs.Turns.{unitAt, cycleAt, turned, stored}
+use Rattle.run.proofs.Turns.{unitAt, cycleAt, unit-turned, answer-stored}
 use borrow.Author.Needs.{needs}
 use Rattle.run.proofs.run_to.Statement.{statement}
 use Rattle.run.proofs.run_to.Tie as tie
@@ -165,8 +165,8 @@ loop-again c =
       at .loop .inv .2,
       omega (arith, same, at .loop .inv .3),
       same ∙ at .loop .inv .4,
-      put c .put .ensures ∙ stored t o (at .loop .out) n (was c) (acted c) (at .loop .inv .5) (at .loop .inv .6) (act-decides c),
-      turned t n (was c) (acted c) (c .match .table) (at .loop .inv .6) (act-decides c)
+      put c .put .ensures ∙ answer-stored t o (at .loop .out) n (was c) (acted c) (at .loop .inv .5) (at .loop .inv .6) (act-decides c),
+      unit-turned t n (was c) (acted c) (c .match .table) (at .loop .inv .6) (act-decides c)
           (table-after c ∙ ap (λ (k : ℕ). changed (acted c .change) k (at .loop .table)) here),
     )
 

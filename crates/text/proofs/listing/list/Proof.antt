@@ -13,7 +13,7 @@ use Rattle.rules.specs.PowerOn.{powerOn}
 use Rattle.rules.specs.Runs.{answers}
 use Rattle.unit_stores.proofs.Laws.{then}
 use Rattle.trace_records.specs.Trace.{givenOf, cyclesOf}
-use Rattle.run.proofs.Ends.{fits, roomy}
+use Rattle.run.proofs.Ends.{fits, with-room}
 use Rattle.text.proofs.Whole.{taken-text, printed-refused, too-short, all-put}
 use borrow.Author.Needs.{needs}
 use Rattle.text.proofs.listing.list.Statement.{statement}
@@ -35,7 +35,7 @@ bufferOf c = let made = c .before .before in now (made .before .before .before .
 came-to : (c : tie.After-run) → (c .run .result ≡ refusalOf (traceOf c))
     × (refusalOf (traceOf c) ≡ 0
     → c .run .last .1 .0 ≡ sets (c .before .before .zeros .result) 0 (packedAll (answers powerOn (cyclesOf (traceOf c)))))
-came-to c = roomy (c .run .ensures) (omega (arith, c .before .before .zeros .ensures))
+came-to c = with-room (c .run .ensures) (omega (arith, c .before .before .zeros .ensures))
 
 put-head-requires : tie.Need-put-head-requires
 put-head-requires c κs =

@@ -9,7 +9,7 @@ use Rattle.rules.specs.declared.Registers.{Registers}
 use Rattle.rules.specs.declared.Stepped.{Stepped}
 use Rattle.rules.specs.declared.Unit.{Unit}
 use Rattle.unit_bytes.specs.Snapshot.{unitBytes}
-use Rattle.unit_bytes.proofs.Ends.{turned}
+use Rattle.unit_bytes.proofs.Ends.{cycle-ends}
 use borrow.Author.Needs.{needs}
 use Rattle.unit_bytes.proofs.cycle.cycled.Statement.{statement}
 use Rattle.unit_bytes.proofs.cycle.cycled.Tie as tie
@@ -18,7 +18,7 @@ returns : tie.Need-returns
 returns c =
     let shown = c .before .before in
     let refusal = shown .before .before .before in
-    turned true (refusal .before .before .before .if1 .taken)
+    cycle-ends true (refusal .before .before .before .if1 .taken)
     (ap (λ (p : Decision). p .answer) (refusal .refused .ensures
     ∙ ap (λ (r : Registers). refused 2 r) (refusal .before .registers-in .ensures)))
     (shown .show .ensures .0)
@@ -33,7 +33,7 @@ returns-2 c =
     let tested = done .before .before .before in
     let start = tested .before .before .before .before .args in
     let after = done .step .ensures ∙ ap (λ (u : Unit). stepped u (start .c)) (done .before .unit-in .ensures) in
-    turned false (tested .if1 .left)
+    cycle-ends false (tested .if1 .left)
     (ap (λ (s : Stepped). s .answer) after)
     (shown .show2 .ensures .0)
     (shown .show2 .ensures .1)

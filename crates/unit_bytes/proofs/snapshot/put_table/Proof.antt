@@ -10,7 +10,7 @@ use borrow.Author.Needs.{needs}
 use Rattle.rules.specs.PowerOn.{blank}
 use Rattle.rules.specs.declared.Descriptor.{Descriptor}
 use Rattle.unit_bytes.specs.Snapshot.{tableAt, segments, descriptorAt, unitSize, descriptorBytes, tableBytes}
-use Rattle.unit_bytes.proofs.Tables.{stored}
+use Rattle.unit_bytes.proofs.Tables.{descriptor-stored}
 use Rattle.unit_bytes.proofs.snapshot.put_table.Statement.{statement}
 use Rattle.unit_bytes.proofs.snapshot.put_table.Tie as tie
 
@@ -39,7 +39,7 @@ loop-again c =
     ap length (put .ensures) ∙ length-sets (at .loop .out) (descriptorAt i) (descriptorBytes d) in (
       put .ensures
           ∙ ap (λ (l : List ℕ). sets l (descriptorAt i) (descriptorBytes d)) (at .loop .inv .0)
-          ∙ stored o (start .t2) i (omega arith)
+          ∙ descriptor-stored o (start .t2) i (omega arith)
           ∙ ap (λ (k : ℕ). sets o tableAt (tableBytes (take k (start .t2)))) (sym (add-one i)),
       omega arith,
       at .loop .inv .2,

@@ -8,7 +8,7 @@ use lib.ListN.{length, take, length-set}
 use lib.Seq.{take-all}
 use borrow.Author.Needs.{needs}
 use Rattle.unit_bytes.specs.Snapshot.{segments, unitSize, tableIn}
-use Rattle.unit_bytes.proofs.Tables.{read}
+use Rattle.unit_bytes.proofs.Tables.{descriptor-read}
 use Rattle.unit_bytes.proofs.snapshot.table_in.Statement.{statement}
 use Rattle.unit_bytes.proofs.snapshot.table_in.Tie as tie
 
@@ -27,7 +27,7 @@ loop-again c =
     let at : tie.At-loop Inv-loop μ-loop = c .before .before in
     let i : ℕ = at .loop .i in
     let l : List ℕ = at .before .before .args .bytes .now in (
-      simp (c .descriptor-in .ensures, add-one) (read l (at .loop .table) i (omega arith) (at .loop .inv .0)),
+      simp (c .descriptor-in .ensures, add-one) (descriptor-read l (at .loop .table) i (omega arith) (at .loop .inv .0)),
       search needs,
       simp length-set (at .loop .inv .2),
       search needs,
