@@ -41,7 +41,9 @@ packed-more (x ∷ rest) a = ap (λ (r : List ℕ). packed x ++ r) (packed-more 
 pub packed-length : (cs : List Cycle) (u : Unit) → length (packedAll (answers u cs)) ≡ width * length cs
 unfolding packedAll packed answers
 packed-length [] u = refl
-packed-length (c ∷ cs) u = let h : length (packedAll (answers (after u c) cs)) ≡ width * length cs = packed-length cs (after u c) in omega (arith, h)
+packed-length (c ∷ cs) u =
+    let h : length (packedAll (answers (after u c) cs)) ≡ width * length cs = packed-length cs (after u c) in
+    omega (arith, h)
 
 pub cycles-length : (t : List ℕ) (n : ℕ) → length (cyclesTo t n) ≡ n
 unfolding cyclesTo
@@ -62,7 +64,8 @@ unfolding ranTo cyclesTo
 turn-bytes t o n =
     let cs : List Cycle = cyclesTo t n in
     let a : Answer = decision (unitAt t n) (cycleAt t n) .answer in
-    let long : length (packedAll (answers powerOn cs)) ≡ width * n = packed-length cs powerOn ∙ ap (λ (k : ℕ). width * k) (cycles-length t n) in
+    let long : length (packedAll (answers powerOn cs)) ≡ width * n =
+    packed-length cs powerOn ∙ ap (λ (k : ℕ). width * k) (cycles-length t n) in
     ap (λ (k : ℕ). sets (ranTo t n o) k (packed a)) (omega (arith, long))
     ∙ sets-append o 0 (packedAll (answers powerOn cs)) (packed a)
     ∙ ap (λ (bs : List ℕ). sets o 0 bs) (sym (ap packedAll (answers-more cs powerOn (cycleAt t n)) ∙ packed-more (answers powerOn cs) a))

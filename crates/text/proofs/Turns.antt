@@ -41,5 +41,6 @@ from-end p count n h =
 
 -- a turn: the line of record n was put, and the lines from n + 1 on are left
 pub turn : (p : List ℕ) (count n : ℕ) {l m k : List ℕ} {at q r : ℕ} → n < count
-    → Put l at (linesFrom p count n) k r → Put l at (lineOf n (take width (drop (width * n) p))) m q → Put m q (linesFrom p count (n + 1)) k r
+    → Put l at (linesFrom p count n) k r → Put l at (lineOf n (take width (drop (width * n) p))) m q
+    → Put m q (linesFrom p count (n + 1)) k r
 turn p count n {l} {m} {k} {at} {q} {r} h w g = onward (subst (λ (vs : List ℕ). Put l at vs k r) (from-next p count n h) w) g

@@ -1,4 +1,4 @@
--- Every definition of the text that stays shut, under one name: `unfolding textComputed` opens them all, for a row that the checker computes.
+-- Every definition of the text that stays shut, under one name: `unfolding textComputed` opens them all, for a row that is computed.
 use Prim.Native.Nat.{ℕ}
 use Rattle.text.specs.Digits.{decimal, digit}
 use Rattle.text.specs.Fields.{kindText, opening, addressText, byteText, signals, headText, refusalText}

@@ -44,7 +44,8 @@ past : (xs rest : List ℕ) (k : ℕ) → descriptorIn (xs ++ rest) (length xs +
 unfolding wordAt descriptorIn
 past xs rest k = simp (add-assoc, getD-append-add)
 
-one-found : (t : List Descriptor) (rest : List ℕ) (n : ℕ) → n < length t → descriptorIn (tableBytes t ++ rest) (descriptorSize * n) ≡ getD t n blank
+one-found : (t : List Descriptor) (rest : List ℕ) (n : ℕ) → n < length t
+    → descriptorIn (tableBytes t ++ rest) (descriptorSize * n) ≡ getD t n blank
 unfolding tableBytes descriptorBytes wordAt descriptorIn
 one-found [] rest n h = absurd (not-suc-le-zero h)
 one-found (d ∷ t) rest zero h =
@@ -60,14 +61,17 @@ module _ (r : Registers) (t : List Descriptor) (rest : List ℕ) where
   unfolding tableIn registerBytes
   table-found zero h = refl
   table-found (suc n) h =
-      ap (λ (s : List Descriptor). s ++ (descriptorIn (registerBytes r ++ tableBytes t ++ rest) (descriptorAt n) ∷ [])) (table-found n (omega arith))
-      ∙ ap (λ (d : Descriptor). take n t ++ (d ∷ [])) (past (registerBytes r) (tableBytes t ++ rest) (descriptorSize * n) ∙ one-found t rest n h)
+      let x : List ℕ = registerBytes r ++ tableBytes t ++ rest in
+      ap (λ (s : List Descriptor). s ++ (descriptorIn x (descriptorAt n) ∷ [])) (table-found n (omega arith))
+      ∙ ap (λ (d : Descriptor). take n t ++ (d ∷ []))
+      (past (registerBytes r) (tableBytes t ++ rest) (descriptorSize * n) ∙ one-found t rest n h)
       ∙ sym (take-suc t n blank h)
 
   -- ---- the registers
   registers-found : registersIn (registerBytes r ++ tableBytes t ++ rest) ≡ r
   unfolding registersIn registerBytes
-  registers-found = ap (λ (n : Notes). record { control = r .control; faults = r .faults; fetched = r .fetched; notes = n }) (notes-found (r .notes))
+  registers-found =
+      ap (λ (n : Notes). record { control = r .control; faults = r .faults; fetched = r .fetched; notes = n }) (notes-found (r .notes))
 
 -- ---- the whole
 module _ (l : List ℕ) (u : Unit) (room : unitSize ≤ length l) (size : length (u .table) ≡ segments) where

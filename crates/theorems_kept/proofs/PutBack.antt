@@ -36,7 +36,8 @@ module _ (l : List ℕ) (bytes : Bytes l) where
   unfolding tableIn
   table-long zero = refl
   table-long (suc n) =
-      length-append (tableIn l n) (descriptorIn l (descriptorAt n) ∷ []) ∙ let h : length (tableIn l n) ≡ n = table-long n in omega (arith, h)
+      let h : length (tableIn l n) ≡ n = table-long n in
+      length-append (tableIn l n) (descriptorIn l (descriptorAt n) ∷ []) ∙ omega (arith, h)
 
   table-back : (n : ℕ) → sets l tableAt (tableBytes (tableIn l n)) ≡ l
   unfolding tableIn tableBytes

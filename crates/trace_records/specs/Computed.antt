@@ -1,4 +1,4 @@
--- Every definition of a trace that stays shut, under one name: `unfolding traceComputed` opens them all, for a row that the checker computes.
+-- Every definition of a trace that stays shut, under one name: `unfolding traceComputed` opens them all, for a row that is computed.
 use Prim.Native.Nat.{ℕ}
 use Rattle.trace_header.specs.Header.{marked, refusalIn}
 use Rattle.unit_stores.specs.Word.{wordAt}

@@ -37,8 +37,8 @@ recordRows =
     ∷ []
 
 -- a part of a trace, and its cycle
-abbrev pub decodedRow : (part : List ℕ) → (status : ℕ) → (read normal dma select : Bool) → (segment : ℕ) → (reset : Bool) → (offset byte : ℕ)
-    → List ℕ × Cycle
+abbrev pub decodedRow : (part : List ℕ) → (status : ℕ) → (read normal dma select : Bool)
+    → (segment : ℕ) → (reset : Bool) → (offset byte : ℕ) → List ℕ × Cycle
 decodedRow part status read normal dma select segment reset offset byte = (
   part,
   record {

@@ -28,7 +28,8 @@ pub descriptor-stored : (o : List ℕ) (t : List Descriptor) (i : ℕ) → i < l
 descriptor-stored o t i h =
     let d : Descriptor = getD t i blank in
     let first : List ℕ = tableBytes (take i t) in
-    let long : length first ≡ descriptorSize * i = table-length (take i t) ∙ ap (λ (k : ℕ). descriptorSize * k) (length-take-le i t (omega arith)) in
+    let long : length first ≡ descriptorSize * i =
+    table-length (take i t) ∙ ap (λ (k : ℕ). descriptorSize * k) (length-take-le i t (omega arith)) in
     ap (λ (k : ℕ). sets (sets o tableAt first) (tableAt + k) (descriptorBytes d)) (sym long)
     ∙ sets-append o tableAt first (descriptorBytes d)
     ∙ ap (sets o tableAt) (sym (ap tableBytes (take-suc t i blank h) ∙ table-more (take i t) d))

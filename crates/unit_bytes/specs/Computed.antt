@@ -1,5 +1,5 @@
--- Every definition of a unit in bytes that stays shut, under one name: `unfolding bytesComputed` opens them all, for a row that the checker
--- computes.
+-- Every definition of a unit in bytes that stays shut, under one name: `unfolding bytesComputed` opens them all, for a row that is
+-- computed.
 use Prim.Native.Nat.{ℕ}
 use Rattle.unit_stores.specs.Word.{wordAt}
 use Rattle.unit_bytes.specs.Snapshot.{descriptorIn, tableIn, notesIn, registersIn, unitIn}

@@ -1,6 +1,6 @@
 -- Where each field of a unit stands among its bytes, and each note in its byte: one table, with the numbers of include/distantarm.h.
--- The unit `sampleUnit` has a value of its own in each field. `Places` (proofs/) shows that the rows hold both ways, of the bytes of a unit and
--- of the unit in bytes.
+-- `sampleUnit` has a value of its own in each field. `Places` (proofs/) shows that the rows hold both ways, of the bytes of a unit and of
+-- the unit in bytes.
 use mathlib.Core.Bool.{Bool, true, false, _&&_}
 use mathlib.Core.List.{List, [], _∷_, map}
 use mathlib.Core.Path.{_≡_}

@@ -1,11 +1,12 @@
--- Flags as the bits of a number, from bit 0 up: each is found at its own bit, the number has no other bits, and a number with no other bits is
--- that of the flags that are found in it.
+-- Flags as the bits of a number, from bit 0 up: each is found at its own bit, the number has no other bits, and a number with no other bits
+-- is that of the flags that are found in it.
 -- Assumes nothing.
 use mathlib.Core.Path.{_≡_, refl, sym, ap, _∙_}
 use mathlib.Core.Bool.{Bool, true, false}
 use mathlib.Core.List.{List, [], _∷_}
 use Prim.Native.Nat.{ℕ, zero, suc, _+_, _*_, _/_, _%_, _^_, _<_}
-use native.Mathlib.Nat.{pow-suc, zero-mul, one-mul, add-mul, mul-assoc, mul-comm, zero-div, div-one, div-div-eq-div-mul, mod-lt, mod-eq-of-lt}
+use native.Mathlib.Nat.{pow-suc, zero-mul, one-mul, add-mul, mul-assoc, mul-comm}
+use native.Mathlib.Nat.{zero-div, div-one, div-div-eq-div-mul, mod-lt, mod-eq-of-lt}
 use native.Mathlib.Numerals.{add-one}
 use native.Mathlib.Omega.{arith}
 use lib.Bits.{or-shifted-r}
@@ -15,8 +16,8 @@ use lib.Pow.{mod-pow-add}
 use Rattle.rules.proofs.FlagLaws.{has-bit}
 use Rattle.rules.specs.Flags.{has, with, flagIf}
 
--- flags beside those that stand already, each with the mask above the one before, and flags from bit 0 up; written out in a list they compute
--- to their masks
+-- flags beside those that stand already, each with the mask above the one before, and flags from bit 0 up; in a list that is written out
+-- they compute to their masks
 abbrev pub flagsFrom : (byte mask : ℕ) → List Bool → ℕ
 flagsFrom byte mask [] = byte
 flagsFrom byte mask (on ∷ rest) = flagsFrom (with byte (flagIf on mask)) (mask * 2) rest

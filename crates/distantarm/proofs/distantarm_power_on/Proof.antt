@@ -13,8 +13,9 @@ returns-2 : tie.Need-returns-2
 returns-2 c =
     let put = c .before .before in
     let made = put .before .before in
+    let start = made .before .before .before .args in
     powered false (made .before .if1 .left) refl
-    (put .put-unit .ensures ∙ ap (λ (u : Unit). sets (made .before .before .before .args .unit .now) 0 (unitBytes u)) (made .power-on .ensures))
+    (put .put-unit .ensures ∙ ap (λ (u : Unit). sets (start .unit .now) 0 (unitBytes u)) (made .power-on .ensures))
 
 pub distantarm-power-on-spec : {M : Type 1} → statement M
 distantarm-power-on-spec =

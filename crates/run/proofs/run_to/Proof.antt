@@ -25,7 +25,8 @@ use Rattle.run.proofs.run_to.Tie as tie
 
 abbrev Inv-loop : tie.InvT-loop
 Inv-loop trace count out₀ table₀ r₀ n₀ out table r n =
-    (n ≤ count) × (count ≤ format1 .most) × (recordStart format1 count ≤ length trace) × (width * count ≤ length out) × (length out ≡ length out₀)
+    (n ≤ count) × (count ≤ format1 .most) × (recordStart format1 count ≤ length trace)
+    × (width * count ≤ length out) × (length out ≡ length out₀)
     × (out ≡ ranTo trace n out₀) × (record { table = table; registers = r } ≡ unitAt trace n)
 
 abbrev μ-loop : tie.MeasureT-loop

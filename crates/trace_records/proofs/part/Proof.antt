@@ -15,8 +15,8 @@ use Rattle.trace_records.proofs.part.Statement.{statement}
 use Rattle.trace_records.proofs.part.Tie as tie
 
 -- where the test was passed, the record lies within the trace
-here : (c : tie.Then1) → (c .before .before .before .args .n < format1 .most)
-    × (recordStart format1 (c .before .before .before .args .n) + format1 .recordSize ≤ length (now (c .before .before .before .args .trace)))
+here : (c : tie.Then1) → let start = c .before .before .before .args in
+    (start .n < format1 .most) × (recordStart format1 (start .n) + format1 .recordSize ≤ length (now (start .trace)))
 here c =
     let start = c .before .before .before .args in
     record-within format1 (now (start .trace)) (start .n)

@@ -1,4 +1,4 @@
--- `unit_bytes::snapshot::put_descriptor` meets its contract: its stores, one after the other, are the descriptor's bytes stored. Assumes nothing.
+-- `unit_bytes::snapshot::put_descriptor` meets its contract: its stores in turn are the descriptor's bytes stored. Assumes nothing.
 use native.Mathlib.Numerals.{towards-suc}
 use native.Mathlib.Omega.{arith}
 use lib.ListN.{length-set}

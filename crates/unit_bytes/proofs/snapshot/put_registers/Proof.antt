@@ -1,4 +1,4 @@
--- `unit_bytes::snapshot::put_registers` meets its contract: its stores, one after the other, are the registers' bytes stored. Assumes nothing.
+-- `unit_bytes::snapshot::put_registers` meets its contract: its stores in turn are the registers' bytes stored. Assumes nothing.
 use native.Mathlib.Omega.{arith}
 use lib.ListN.{length-set}
 use Rattle.unit_bytes.specs.Snapshot.{registerBytes}

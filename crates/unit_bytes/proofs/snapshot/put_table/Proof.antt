@@ -51,7 +51,8 @@ returns : tie.Need-returns Inv-loop μ-loop
 returns c =
     let at : tie.At-loop Inv-loop μ-loop = c .before in
     let start = at .before .before .args in
-    at .loop .inv .0 ∙ ap (λ (t : List Descriptor). sets (start .out .now) tableAt (tableBytes t)) (take-all (at .loop .i) (start .t2) (omega arith))
+    at .loop .inv .0
+    ∙ ap (λ (t : List Descriptor). sets (start .out .now) tableAt (tableBytes t)) (take-all (at .loop .i) (start .t2) (omega arith))
 
 pub put-table-spec : {M : Type 1} → statement M
 put-table-spec =
