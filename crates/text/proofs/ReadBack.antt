@@ -24,7 +24,7 @@ use Rattle.text.specs.Text.{answerLine, answerLines}
 line-back : (n : ℕ) (a : Answer) → lineOf n (packed a) ≡ answerLine n a
 unfolding lineOf answerLine packed flagsOf
 line-back n a =
-    let l : List Bool = a .lines .driven ∷ a .sup ∷ a .trap ∷ a .drives ∷ [] in
+    let l : List Bool = a .address .driven ∷ a .sup ∷ a .trap ∷ a .drives ∷ [] in
     simp (flag-found l 0, flag-found l 1, flag-found l 2, flag-found l 3)
 
 pub lines-back : (n : ℕ) (xs : List Answer) (rest : List ℕ) → linesOf n (length xs) (packedAll xs ++ rest) ≡ answerLines n xs

@@ -17,7 +17,7 @@ use Rattle.unit_stores.specs.Word.{highOf, lowOf}
 unfoldable pub answerLine : ℕ → Answer → List ℕ
 answerLine n a =
     opening n (letterOf (a .kind)) (numberOf (a .kind))
-    ++ (addressText (a .lines .driven) (highOf (a .lines .block)) (lowOf (a .lines .block))
+    ++ (addressText (a .address .driven) (highOf (a .address .block)) (lowOf (a .address .block))
     ++ (space ∷ signals (a .sup) (a .trap) (a .drives) (a .byte)))
 
 -- the lines of answers, numbered from n

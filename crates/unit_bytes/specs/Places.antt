@@ -7,8 +7,8 @@ use mathlib.Core.Path.{_≡_}
 use Prim.Native.Nat.{ℕ, _/_, _%_}
 use lib.Dec.{eqb}
 use lib.ListN.{length, getD, set, replicate}
-use Rattle.rules.specs.PowerOn.{blank}
-use Rattle.rules.specs.Seen.{segment, notes}
+use Rattle.rules.specs.PowerOn.{faultsOf, notesOf, unitOf, blank}
+use Rattle.rules.specs.Seen.{segment}
 use Rattle.rules.specs.declared.Notes.{Notes}
 use Rattle.rules.specs.declared.Unit.{Unit}
 use Rattle.unit_bytes.specs.Snapshot.{segments, unitSize, notesIn, unitIn, notesByte, unitBytes}
@@ -16,15 +16,10 @@ use Rattle.unit_bytes.specs.Snapshot.{segments, unitSize, notesIn, unitI
 -- ---- the unit that the rows speak of: descriptors 0, 1 and 63, and every register, with values that differ
 
 abbrev pub sampleUnit : Unit
-sampleUnit = record {
-  table = set (set (set (replicate segments blank) 0 (segment 0xA1A2 0xA3 0xA4)) 1 (segment 0xB1B2 0xB3 0xB4)) 63 (segment 0xC1C2 0xC3 0xC4);
-  registers = record {
-    control = record { mr = 0xD0; sar = 0x21; dscr = 0x02 };
-    faults = record { vtr = 0x43; vsn = 0x24; voff = 0x85; bcsr = 0x36 };
-    fetched = record { isn = 0x27; ioff = 0x98 };
-    notes = record { request = true; awaits = false; own = true; hold = false };
-  };
-}
+sampleUnit =
+    unitOf
+    (set (set (set (replicate segments blank) 0 (segment 0xA1A2 0xA3 0xA4)) 1 (segment 0xB1B2 0xB3 0xB4)) 63 (segment 0xC1C2 0xC3 0xC4))
+    0xD0 0x21 0x02 (faultsOf 0x43 0x24 0x85 0x36) 0x27 0x98 (notesOf true false true false)
 
 -- ---- its bytes
 
@@ -96,12 +91,12 @@ laidOut = eqb (length (unitBytes sampleUnit)) 266 && byteRowsHold byteRows
 
 abbrev pub noteRows : List (ℕ × Notes)
 noteRows =
-    (0, notes false false false false)
-    ∷ (1, notes true false false false)
-    ∷ (2, notes false true false false)
-    ∷ (4, notes false false true false)
-    ∷ (8, notes false false false true)
-    ∷ (15, notes true true true true)
+    (0, notesOf false false false false)
+    ∷ (1, notesOf true false false false)
+    ∷ (2, notesOf false true false false)
+    ∷ (4, notesOf false false true false)
+    ∷ (8, notesOf false false false true)
+    ∷ (15, notesOf true true true true)
     ∷ []
 
 -- both ways

@@ -1,4 +1,4 @@
--- `unit_step::table::mark_all` meets its contract: each answer follows from the tests on its way and what the calls ensure. Assumes nothing.
+-- `unit_step::table::with_flags_in_all` meets its contract: each answer follows from the tests on its way and what the calls ensure. Assumes nothing.
 use mathlib.Core.Path.{_≡_, refl, _∙_}
 use Prim.Native.Nat.{_≤_, _-_}
 use native.Mathlib.Numerals.{add-one}
