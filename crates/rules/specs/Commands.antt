@@ -4,7 +4,7 @@ use Prim.Native.Nat.{ℕ, _%_}
 use Rattle.rules.specs.Flags.{without, flagIf}
 use Rattle.rules.specs.Masks.{CPUI, DMAI, SWW, FATL}
 use Rattle.rules.specs.PowerOn.{quiet}
-use Rattle.rules.specs.Answers.{spoken, plain, refused}
+use Rattle.rules.specs.Replies.{spoken, plain, refused}
 use Rattle.rules.specs.Registers.{withControl, withVtr, withNotes}
 use Rattle.rules.specs.Codes.{commandOf}
 use Rattle.rules.specs.Entry.{byteOf, indexOf, moved, writtenBy}

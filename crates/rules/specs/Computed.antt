@@ -2,7 +2,7 @@
 -- added stands in one of these lists, and in no other.
 use Prim.Native.Nat.{ℕ}
 use Rattle.rules.specs.Refusals.{damaged, outOfRange}
-use Rattle.rules.specs.Answers.{plain, refused, seen}
+use Rattle.rules.specs.Replies.{plain, refused, seen}
 use Rattle.rules.specs.Status.{resetBy, acknowledgeByte, quieted, acknowledged, ignored, purposeOf, byStatus}
 use Rattle.rules.specs.Translation.{wayOf, blockOf, addressOf}
 use Rattle.rules.specs.Checks.{rightsOf, outOfLength, warns}

@@ -5,7 +5,7 @@ use lib.Dec.{eqb}
 use Rattle.rules.specs.Flags.{with, flagIf}
 use Rattle.rules.specs.Masks.{REF, CHG}
 use Rattle.rules.specs.Bus.{cpu, write, fetch}
-use Rattle.rules.specs.Answers.{seen}
+use Rattle.rules.specs.Replies.{seen}
 use Rattle.rules.specs.Checks.{Findings, found}
 use Rattle.rules.specs.Recording.{eventOf, recorded}
 use Rattle.rules.specs.PowerOn.{notesOf}

@@ -1,4 +1,4 @@
--- Document 01, "Numbers that say no": 2 and 1. 3 and 4 are met in `Commands`; what a refusal gives back is in `Answers`.
+-- Document 01, "Numbers that say no": 2 and 1. 3 and 4 are met in `Commands`; what a refusal gives back is in `Replies`.
 use mathlib.Core.Bool.{Bool, _&&_, _||_}
 use Prim.Native.Nat.{ℕ}
 use lib.Dec.{ltb}

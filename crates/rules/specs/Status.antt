@@ -6,7 +6,7 @@ use Rattle.rules.specs.Flags.{has}
 use Rattle.rules.specs.Masks.{MSEN}
 use Rattle.rules.specs.Bus.{cpu}
 use Rattle.rules.specs.PowerOn.{quiet}
-use Rattle.rules.specs.Answers.{spoken, plain}
+use Rattle.rules.specs.Replies.{spoken, plain}
 use Rattle.rules.specs.Registers.{withNotes}
 use Rattle.rules.specs.Memory.{memory}
 use Rattle.rules.specs.Commands.{restarted, commanded}

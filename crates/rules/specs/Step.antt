@@ -7,7 +7,7 @@ use lib.ListN.{getD, set}
 use Rattle.rules.specs.Flags.{with}
 use Rattle.rules.specs.PowerOn.{blank}
 use Rattle.rules.specs.Refusals.{damaged, outOfRange}
-use Rattle.rules.specs.Answers.{refused}
+use Rattle.rules.specs.Replies.{refused}
 use Rattle.rules.specs.Status.{resetBy, byStatus}
 use Rattle.rules.specs.declared.Change.{Change}
 use Rattle.rules.specs.declared.Change.the-variants.{Keep, Put, Raise}

@@ -3,7 +3,7 @@ use mathlib.Core.Bool.{Bool, true, false, Bool·beq}
 use Prim.Native.Nat.{ℕ, _+_, _*_, _%_}
 use Rattle.rules.specs.Flags.{has, lacks}
 use Rattle.rules.specs.Masks.{NMS, MST, URS, TRNS, MSEN, UPPER}
-use Rattle.rules.specs.Answers.{off}
+use Rattle.rules.specs.Replies.{off}
 use Rattle.rules.specs.declared.Cycle.{Cycle}
 use Rattle.rules.specs.declared.Address.{Address}
 use Rattle.rules.specs.declared.Way.{Way}

@@ -1,6 +1,6 @@
 // Answers: they are made here and nowhere else. And the kind of an answer as a letter and a number.
 ghost use mathlib.Core.Path.{_≡_};
-ghost use Rattle.rules.specs.Answers.{seen, spoken, plain, refused};
+ghost use Rattle.rules.specs.Replies.{seen, spoken, plain, refused};
 ghost use Rattle.rules.specs.Kinds.{letterOf, numberOf};
 use rules::Address;
 use rules::Answer;

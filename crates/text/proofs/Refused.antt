@@ -4,7 +4,7 @@ use mathlib.Core.Path.{_≡_, refl}
 use mathlib.Core.List.{[], _∷_, _++_}
 use Prim.Native.Nat.{ℕ}
 use Rattle.text.specs.Fields.{opening, bitText, addressText, byteText, signals}
-use Rattle.rules.specs.Answers.{plain, refused}
+use Rattle.rules.specs.Replies.{plain, refused}
 use Rattle.rules.specs.declared.Registers.{Registers}
 use Rattle.text.specs.Text.{answerLine}
 

@@ -15,7 +15,7 @@ use Rattle.rules.specs.Masks.{RD, SYS, CPUI, EXC, DMAI, DIRW, RDV, SYSV, CPUIV,
 use Rattle.rules.specs.Masks.{NMS, MST, URS, TRNS, MSEN, UPPER}
 use Rattle.rules.specs.PowerOn.{blank}
 use Rattle.rules.specs.Refusals.{damaged, outOfRange}
-use Rattle.rules.specs.Answers.{off, plain, refused, seen}
+use Rattle.rules.specs.Replies.{off, plain, refused, seen}
 use Rattle.rules.specs.Status.{resetBy, acknowledged, ignored, purposeOf, byPurpose, byStatus}
 use Rattle.rules.specs.Memory.{begun, checked, accessed, aborted, untranslated, memoryBy, aborts, memory}
 use Rattle.rules.specs.Translation.{wayBy, wayOf, blockOf, addressOf}

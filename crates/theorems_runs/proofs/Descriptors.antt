@@ -15,7 +15,7 @@ use Rattle.rules.specs.Flags.{has}
 use Rattle.rules.specs.Masks.{RD, SYS, CPUI, EXC, DMAI, DIRW}
 use Rattle.rules.specs.PowerOn.{blank}
 use Rattle.rules.specs.Refusals.{damaged, outOfRange}
-use Rattle.rules.specs.Answers.{plain, refused, seen}
+use Rattle.rules.specs.Replies.{plain, refused, seen}
 use Rattle.rules.specs.Runs.{units}
 use Rattle.rules.specs.Status.{resetBy, acknowledged, ignored, purposeOf, byPurpose, byStatus}
 use Rattle.rules.specs.Memory.{begun, touched, touchedBy, suppressed, checked, accessed, aborted, untranslated, memoryBy, aborts, memory}

@@ -10,7 +10,7 @@ use Rattle.rules.specs.Flags.{has}
 use Rattle.rules.specs.Masks.{RD, TRNS}
 use Rattle.rules.specs.PowerOn.{faultsOf, notesOf, blank, powerOn}
 use Rattle.rules.specs.Refusals.{damaged, outOfRange}
-use Rattle.rules.specs.Answers.{off, plain, refused, seen}
+use Rattle.rules.specs.Replies.{off, plain, refused, seen}
 use Rattle.rules.specs.Seen.{segment, noNote, cycle, command, unitHolding, unitWith, acknowledge as acknowledges}
 use Rattle.rules.specs.Status.{resetBy, ignored, purposeOf, byPurpose, byStatus}
 use Rattle.rules.specs.Recording.{eventOf, recorded}

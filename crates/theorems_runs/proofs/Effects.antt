@@ -12,7 +12,7 @@ use borrow.Author.Tests.{eqb-true}
 use Rattle.rules.specs.Flags.{without}
 use Rattle.rules.specs.Masks.{CPUI, DMAI, SWW, FATL}
 use Rattle.rules.specs.PowerOn.{blank}
-use Rattle.rules.specs.Answers.{off, plain, refused}
+use Rattle.rules.specs.Replies.{off, plain, refused}
 use Rattle.rules.specs.Entry.{replaced, indexOf, nextCounter, moved, writtenBy}
 use Rattle.rules.specs.Commands.{replied, programmed, entry, restarted, acted, executed}
 use Rattle.rules.specs.Registers.{withVtr}

@@ -11,7 +11,7 @@ use Rattle.rules.specs.Flags.{has, lacks, with}
 use Rattle.rules.specs.Masks.{SWW, FATL, PRIMARY}
 use Rattle.rules.specs.PowerOn.{powerOn}
 use Rattle.rules.specs.Refusals.{orphan, damaged}
-use Rattle.rules.specs.Answers.{plain, refused}
+use Rattle.rules.specs.Replies.{plain, refused}
 use Rattle.rules.specs.Runs.{answers}
 use Rattle.rules.specs.Status.{quieted}
 use Rattle.rules.specs.Recording.{firstEntry, added, raised, recorded}

@@ -5,7 +5,7 @@ use mathlib.Core.Bool.{Bool, true, false}
 use mathlib.Core.Option.{Option, none, some}
 use Prim.Native.Nat.{ℕ}
 use native.Mathlib.Omega.{arith}
-use Rattle.rules.specs.Answers.{plain, refused}
+use Rattle.rules.specs.Replies.{plain, refused}
 use Rattle.rules.specs.Step.{changed, decision, after}
 use Rattle.rules.specs.declared.Decision.{Decision}
 use Rattle.rules.specs.declared.Kind.{Kind}

@@ -11,7 +11,7 @@ use Rattle.rules.specs.Bus.{cpu, write, fetch}
 use Rattle.rules.specs.Checks.{found}
 use Rattle.rules.specs.PowerOn.{blank}
 use Rattle.rules.specs.Refusals.{damaged, outOfRange}
-use Rattle.rules.specs.Answers.{plain, refused}
+use Rattle.rules.specs.Replies.{plain, refused}
 use Rattle.rules.specs.Status.{resetBy, quieted, acknowledged, ignored, purposeOf, byPurpose, byStatus}
 use Rattle.rules.specs.Recording.{firstEntry, added, raised, eventOf, recorded}
 use Rattle.rules.specs.Memory.{begun, noted, checked, accessed, resumed, aborted, untranslated, memoryBy, aborts, memory}

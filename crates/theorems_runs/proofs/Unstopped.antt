@@ -13,7 +13,7 @@ use Rattle.rules.specs.Entry.{replaced, moved}
 use Rattle.rules.specs.Flags.{has}
 use Rattle.rules.specs.Masks.{CPUI, DMAI, DIRW, TRNS}
 use Rattle.rules.specs.Refusals.{damaged, outOfRange}
-use Rattle.rules.specs.Answers.{off}
+use Rattle.rules.specs.Replies.{off}
 use Rattle.rules.specs.Codes.{commandOf}
 use Rattle.rules.specs.Step.{after, stepped}
 use Rattle.rules.specs.declared.Action.the-variants.{SoftwareReset, ClearVtr, ClearSww, ClearFatl, SetCpui, SetDmai}

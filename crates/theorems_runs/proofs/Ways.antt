@@ -11,7 +11,7 @@ use Rattle.rules.specs.Bus.{cpu, write, fetch, program}
 use Rattle.rules.specs.Flags.{flagIf, has, lacks, with, without}
 use Rattle.rules.specs.Masks.{RD, SYS, CPUI, EXC, DMAI, RDV, SYSV, SLV, CPUIV, EXCV, DMAIV, SWW, FATL, PRIMARY}
 use Rattle.rules.specs.Refusals.{damaged, outOfRange}
-use Rattle.rules.specs.Answers.{plain, refused, seen}
+use Rattle.rules.specs.Replies.{plain, refused, seen}
 use Rattle.rules.specs.Status.{resetBy, quieted, acknowledged, ignored, purposeOf, byPurpose, byStatus}
 use Rattle.rules.specs.Checks.{rightsOf, outOfLength, found}
 use Rattle.rules.specs.Recording.{eventBy, eventOf, firstEntry, added, raised, rowOf, stackWarning, recorded}

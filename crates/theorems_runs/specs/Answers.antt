@@ -10,7 +10,7 @@ use Rattle.rules.specs.Bus.{cpu, write}
 use Rattle.rules.specs.Flags.{has}
 use Rattle.rules.specs.Masks.{RD, SYS, CPUI, EXC, DMAI, DIRW, TRNS}
 use Rattle.rules.specs.PowerOn.{blank}
-use Rattle.rules.specs.Answers.{off}
+use Rattle.rules.specs.Replies.{off}
 use Rattle.rules.specs.Step.{stepped}
 use Rattle.rules.specs.declared.Cycle.{Cycle}
 use Rattle.rules.specs.declared.Descriptor.{Descriptor}

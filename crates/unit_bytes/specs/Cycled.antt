@@ -9,7 +9,7 @@ use lib.Seq.{sets}
 use Rattle.unit_packed.specs.Packed.{packed}
 use Rattle.unit_stores.specs.Put.{NO_ROOM}
 use Rattle.rules.specs.Kinds.{numberOf}
-use Rattle.rules.specs.Answers.{refused}
+use Rattle.rules.specs.Replies.{refused}
 use Rattle.rules.specs.Step.{stepped}
 use Rattle.rules.specs.declared.Answer.{Answer}
 use Rattle.rules.specs.declared.Cycle.{Cycle}

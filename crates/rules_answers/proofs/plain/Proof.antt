@@ -1,5 +1,5 @@
 -- `rules_answers::plain` meets its contract: what the call ensures. Assumes nothing.
-use Rattle.rules.specs.Answers.{plain}
+use Rattle.rules.specs.Replies.{plain}
 use borrow.Author.Needs.{needs}
 use Rattle.rules_answers.proofs.plain.Statement.{statement}
 use Rattle.rules_answers.proofs.plain.Tie as tie

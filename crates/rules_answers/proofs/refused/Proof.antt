@@ -1,5 +1,5 @@
 -- `rules_answers::refused` meets its contract: what the calls ensure, put together. Assumes nothing.
-use Rattle.rules.specs.Answers.{refused}
+use Rattle.rules.specs.Replies.{refused}
 use borrow.Author.Needs.{needs}
 use Rattle.rules_answers.proofs.refused.Statement.{statement}
 use Rattle.rules_answers.proofs.refused.Tie as tie

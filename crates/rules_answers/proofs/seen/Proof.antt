@@ -1,6 +1,6 @@
 -- `rules_answers::seen` meets its contract: the code is the definition. Assumes nothing.
 use mathlib.Core.Path.{refl}
-use Rattle.rules.specs.Answers.{seen}
+use Rattle.rules.specs.Replies.{seen}
 use Rattle.rules_answers.proofs.seen.Statement.{statement}
 use Rattle.rules_answers.proofs.seen.Tie as tie
 

@@ -2,7 +2,7 @@
 use mathlib.Core.Path.{refl, ap, _∙_}
 use mathlib.Core.Bool.{true, false}
 use lib.Seq.{sets}
-use Rattle.rules.specs.Answers.{refused}
+use Rattle.rules.specs.Replies.{refused}
 use Rattle.rules.specs.Step.{stepped}
 use Rattle.rules.specs.declared.Decision.{Decision}
 use Rattle.rules.specs.declared.Registers.{Registers}
