@@ -1,0 +1,104 @@
+-- What the rules are not: document 01's wrong turns, and open points of docs/DECISIONS.md read the other way. Each stands on one cycle: a
+-- row that holds of the rules, and the answer and unit that the wrong reading would give there, with which it doesn't. antt computes both.
+-- Assumes nothing.
+use mathlib.Core.Bool.{Bool, true, false, not, _&&_}
+use mathlib.Core.List.{List, [], _∷_}
+use lib.Dec.{T}
+use Rattle.rules.specs.Computed.{computed}
+use Rattle.rules.specs.Recording.{firstEntry}
+use Rattle.rules.specs.Seen.{Row, row, rowAfter, holds, segment, faults, notes, noNote, warned, everyNote, standing, translating}
+use Rattle.rules.specs.Seen.{cycle, writes, command, drivesBlock, drivesByte, drivesNothing, translated}
+use Rattle.rules.specs.MemoryRows.{unitAs, unitIn, fetchedAt, fetchAt, readAt, writeAt, requested}
+use Rattle.rules.specs.CodeRows.{unitBy, unitAt, tableWith, own}
+use Rattle.rules.specs.declared.Answer.{Answer}
+use Rattle.rules.specs.declared.Unit.{Unit}
+use Rattle.rules.specs.declared.Kind.the-variants as kind
+
+-- a row, and the answer and the unit that a wrong reading would have in it
+pub record Turned : Type 0 where
+  pub right : Row
+  pub answer : Answer
+  pub left : Unit
+
+abbrev pub turned : Row → Answer → (left : Unit) → Turned
+turned r a l = record { right = r; answer = a; left = l }
+
+-- the row holds, and with the other two it doesn't
+abbrev pub refuted : Turned → Bool
+refuted t = holds (t .right) && not (holds (rowAfter (t .right .unit) (t .right .before) (t .right .cycle) (t .answer) (t .left)))
+
+abbrev pub allRefuted : List Turned → Bool
+allRefuted [] = true
+allRefuted (t ∷ ts) = refuted t && allRefuted ts
+
+-- Document 01, "Wrong turns seen before"
+abbrev pub wrongTurns : List Turned
+wrongTurns =
+    -- "Suppress ending with the faulting cycle, when it lasts to the next fetch."
+    turned (row (unitIn 0x04 everyNote 0) (readAt 0x15) (translated 0x2315 true true) (unitIn 0x04 everyNote 0))
+    (translated 0x2315 false true) (unitIn 0x04 everyNote 0x80) ∷
+    -- "The warning block of a stack taken at the top": at the limit, and at the top
+    turned (row (translating (segment 0 0xF0 0x20)) (writes 0xF0) (translated 0xF0 false true)
+    (standing (faults 0x20 0 0xF0 0x28) warned (segment 0 0xF0 0xE0)))
+    (translated 0xF0 false false) (translating (segment 0 0xF0 0xE0)) ∷
+    turned (row (translating (segment 0 0xF0 0x20)) (writes 0xFF) (translated 0xFF false false) (translating (segment 0 0xF0 0xE0)))
+    (translated 0xFF false true) (standing (faults 0x20 0 0xFF 0x28) warned (segment 0 0xF0 0xE0)) ∷
+    -- "or a DIRW range measured as limit + 1 blocks": the block below the limit
+    turned (row (translating (segment 0 0xF0 0x20)) (writes 0xEF) (translated 0xEF true true)
+    (standing (faults 0x04 0 0xEF 0x28) everyNote (segment 0 0xF0 0x20)))
+    (translated 0xEF false false) (translating (segment 0 0xF0 0xE0)) ∷
+    -- "FATL set by two violations of one instruction."
+    turned (row (unitIn 0x01 everyNote 0) (readAt 0x41) (translated 0x2341 true true) (unitIn 0x05 everyNote 0))
+    (translated 0x2341 true true) (unitIn 0x81 everyNote 0) ∷
+    -- "The aborted fetch overwriting ISN": where VTR was cleared
+    turned (row (unitIn 0 everyNote 0) (fetchAt 0x15) (drivesBlock kind.Aborted 0x2315 false true) (unitIn 0 requested 0))
+    (drivesBlock kind.Aborted 0x2315 false true) (fetchedAt 0xC0 0x15 requested 0) ∷
+    -- "or forgiving a second fetch too": both past the limit, the first aborted, the second a violation
+    turned (rowAfter (unitIn 0x04 everyNote 0) (fetchAt 0x41 ∷ []) (fetchAt 0x41) (translated 0x2341 true true)
+    (unitIn 0x84 (notes true true false true) 0))
+    (drivesBlock kind.Aborted 0x2341 false true) (unitIn 0x04 requested 0) ∷
+    -- "A DMA cycle held back by the CPU's fault."
+    turned (row (unitIn 0x04 everyNote 0) (cycle true true true 8 5 0x15) (translated 0x2315 false true) (unitIn 0x04 everyNote 0x80))
+    (translated 0x2315 true true) (unitIn 0x04 everyNote 0) ∷
+    []
+
+-- Open points of docs/DECISIONS.md, by their numbers
+abbrev pub turnedReadings : List Turned
+turnedReadings =
+    -- 8: an aborted fetch drives nothing
+    turned (row (unitIn 0x04 everyNote 0) (fetchAt 0x15) (drivesBlock kind.Aborted 0x2315 false true) (unitIn 0x04 requested 0))
+    (drivesNothing kind.Aborted false true) (unitIn 0x04 requested 0) ∷
+    -- 10: a write that hold suppresses does not warn
+    turned (row (unitIn 0x01 everyNote 0x20) (writeAt true 0x8 0x40) (translated 0x2340 true true) (unitIn 0x21 everyNote 0x20))
+    (translated 0x2340 true true) (unitIn 0x01 everyNote 0x20) ∷
+    -- 14: hold suppresses translated cycles alone: none that is passed, and none that is not driven
+    turned (row (unitAs 0x80 0x04 everyNote 0) (readAt 0x15) (drivesBlock kind.Passed 0x0515 true true) (unitAs 0x80 0x04 everyNote 0))
+    (drivesBlock kind.Passed 0x0515 false true) (unitAs 0x80 0x04 everyNote 0) ∷
+    turned (row (unitAs 0 0x04 everyNote 0) (readAt 0x15) (drivesNothing kind.Ignored true true) (unitAs 0 0x04 everyNote 0))
+    (drivesNothing kind.Ignored false true) (unitAs 0 0x04 everyNote 0) ∷
+    -- 23: a DMA write sets neither REF nor CHG, or REF alone
+    turned (row (unitIn 0 noNote 0) (cycle true false true 8 5 0x15) (translated 0x2315 false false) (unitIn 0 noNote 0xC0))
+    (translated 0x2315 false false) (unitIn 0 noNote 0) ∷
+    turned (row (unitIn 0 noNote 0) (cycle true false true 8 5 0x15) (translated 0x2315 false false) (unitIn 0 noNote 0xC0))
+    (translated 0x2315 false false) (unitIn 0 noNote 0x80) ∷
+    -- 25: %08 with DSCR 2 moves a byte of the base
+    turned (row (unitAt 2) (command true 0x08 0) (drivesByte kind.Command 0x56 true) (unitBy 0x5A 0x15 0 0xE5 everyNote (tableWith own 0)))
+    (drivesByte kind.Command 0x12 true) (unitBy 0x5A 0x15 0 0xE5 everyNote (tableWith own 0)) ∷
+    -- 29: clear VTR clears the notes
+    turned (row (unitAt 1) (command false 0x11 0) (drivesNothing kind.Command false true)
+    (unitBy 0x5A 0x15 1 0 everyNote (tableWith own 0)))
+    (drivesNothing kind.Command false false) (unitBy 0x5A 0x15 1 0 noNote (tableWith own 0)) ∷
+    []
+
+pub wrong-turns-refuted : T (allRefuted wrongTurns)
+unfolding computed
+wrong-turns-refuted = tt
+
+pub turned-readings-refuted : T (allRefuted turnedReadings)
+unfolding computed
+turned-readings-refuted = tt
+
+-- Ticket 11, "take the row out": a first entry requests beside FATL too. No cycle shows it, since a unit with FATL alone refuses each.
+pub orphan-row-refuted : T (firstEntry (unitIn 0x80 noNote 0 .registers) (readAt 0x41) 0x04 .notes .request)
+unfolding computed
+orphan-row-refuted = tt
