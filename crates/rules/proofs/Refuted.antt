@@ -6,7 +6,9 @@ use mathlib.Core.List.{List, [], _∷_}
 use lib.Dec.{T}
 use Rattle.rules.specs.Computed.{computed}
 use Rattle.rules.specs.Recording.{firstEntry}
-use Rattle.rules.specs.Seen.{Row, row, rowAfter, holds, segment, faults, notes, noNote, warned, everyNote, standing, translating}
+use Rattle.rules.specs.PowerOn.{faultsOf, notesOf}
+use Rattle.rules.specs.Seen.{Row, row, rowAfter, holds, segment, noNote, warned, everyNote, standing, translating}
+use Rattle.rules.specs.PowerOn.{faultsOf, notesOf}
 use Rattle.rules.specs.Seen.{cycle, writes, command, drivesBlock, drivesByte, drivesNothing, translated}
 use Rattle.rules.specs.MemoryRows.{unitAs, unitIn, fetchedAt, fetchAt, readAt, writeAt, requested}
 use Rattle.rules.specs.CodeRows.{unitBy, unitAt, tableWith, own}
@@ -39,13 +41,13 @@ wrongTurns =
     (translated 0x2315 false true) (unitIn 0x04 everyNote 0x80) ∷
     -- "The warning block of a stack taken at the top": at the limit, and at the top
     turned (row (translating (segment 0 0xF0 0x20)) (writes 0xF0) (translated 0xF0 false true)
-    (standing (faults 0x20 0 0xF0 0x28) warned (segment 0 0xF0 0xE0)))
+    (standing (faultsOf 0x20 0 0xF0 0x28) warned (segment 0 0xF0 0xE0)))
     (translated 0xF0 false false) (translating (segment 0 0xF0 0xE0)) ∷
     turned (row (translating (segment 0 0xF0 0x20)) (writes 0xFF) (translated 0xFF false false) (translating (segment 0 0xF0 0xE0)))
-    (translated 0xFF false true) (standing (faults 0x20 0 0xFF 0x28) warned (segment 0 0xF0 0xE0)) ∷
+    (translated 0xFF false true) (standing (faultsOf 0x20 0 0xFF 0x28) warned (segment 0 0xF0 0xE0)) ∷
     -- "or a DIRW range measured as limit + 1 blocks": the block below the limit
     turned (row (translating (segment 0 0xF0 0x20)) (writes 0xEF) (translated 0xEF true true)
-    (standing (faults 0x04 0 0xEF 0x28) everyNote (segment 0 0xF0 0x20)))
+    (standing (faultsOf 0x04 0 0xEF 0x28) everyNote (segment 0 0xF0 0x20)))
     (translated 0xEF false false) (translating (segment 0 0xF0 0xE0)) ∷
     -- "FATL set by two violations of one instruction."
     turned (row (unitIn 0x01 everyNote 0) (readAt 0x41) (translated 0x2341 true true) (unitIn 0x05 everyNote 0))
@@ -55,7 +57,7 @@ wrongTurns =
     (drivesBlock kind.Aborted 0x2315 false true) (fetchedAt 0xC0 0x15 requested 0) ∷
     -- "or forgiving a second fetch too": both past the limit, the first aborted, the second a violation
     turned (rowAfter (unitIn 0x04 everyNote 0) (fetchAt 0x41 ∷ []) (fetchAt 0x41) (translated 0x2341 true true)
-    (unitIn 0x84 (notes true true false true) 0))
+    (unitIn 0x84 (notesOf true true false true) 0))
     (drivesBlock kind.Aborted 0x2341 false true) (unitIn 0x04 requested 0) ∷
     -- "A DMA cycle held back by the CPU's fault."
     turned (row (unitIn 0x04 everyNote 0) (cycle true true true 8 5 0x15) (translated 0x2315 false true) (unitIn 0x04 everyNote 0x80))
