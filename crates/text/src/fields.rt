@@ -66,7 +66,7 @@ fn put_byte(out: &mut [u8], at: usize, driven: bool, byte: u8) -> usize
 }
 
 // 0 or 1.
-fn bit_of(on: bool) -> u8
+fn bit_text(on: bool) -> u8
     ensures { λ r. ⌜ r ≡ bitText on ⌝ }
 {
     if on { b'1' } else { b'0' }
@@ -78,8 +78,8 @@ pub fn put_signals(out: &mut [u8], at: usize, flags: u8, byte: u8) -> usize
     ensures { λ r. ⌜ Put (now (out .entry)) at (signals (has flags SUP) (has flags TRAP) (has flags DRIVES) byte) (now (out .exit)) r ⌝ }
     ensures { λ r. ⌜ r ≤ at + signalsRoom ⌝ }
 {
-    let sup = bit_of(flags & unit_packed::SUP != 0);
-    let request = bit_of(flags & unit_packed::TRAP != 0);
+    let sup = bit_text(flags & unit_packed::SUP != 0);
+    let request = bit_text(flags & unit_packed::TRAP != 0);
     let p1 = put(out, at, sup);
     let p2 = put(out, p1, b' ');
     let p3 = put(out, p2, request);

@@ -33,7 +33,7 @@ pub fn put_decimal(out: &mut [u8], at: usize, n: usize) -> usize
 }
 
 // A capital hexadecimal digit.
-fn digit_of(d: u8) -> u8
+fn digit(d: u8) -> u8
     requires { ⌜ d < 16 ⌝ }
     ensures { λ r. ⌜ r ≡ digit d ⌝ }
 {
@@ -46,8 +46,8 @@ pub fn put_hex(out: &mut [u8], at: usize, n: u8) -> usize
     ensures { λ r. ⌜ Put (now (out .entry)) at (hexText n) (now (out .exit)) r ⌝ }
     ensures { λ r. ⌜ r ≤ at + hexRoom ⌝ }
 {
-    let high = digit_of(n / 16);
-    let low = digit_of(n % 16);
+    let high = digit(n / 16);
+    let low = digit(n % 16);
     let p = put(out, at, high);
     put(out, p, low)
 }

@@ -49,7 +49,7 @@ fn marked(trace: &[u8]) -> bool
 }
 
 // The record count that the header states.
-pub fn stated(trace: &[u8]) -> usize
+pub fn count_of(trace: &[u8]) -> usize
     ensures { λ n. ⌜ (n ≡ countOf (now (trace .entry))) × (n < wordValues) ⌝ }
 {
     word_at(trace, COUNT_AT)
@@ -71,7 +71,7 @@ pub fn refusal(trace: &[u8]) -> u8
     if other {
         return 6;
     }
-    let count = stated(trace);
+    let count = count_of(trace);
     let many = MOST < count;
     if many {
         return 7;

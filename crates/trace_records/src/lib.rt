@@ -6,8 +6,8 @@ use rules::Unit;
 use trace_header::HEAD;
 use trace_header::RECORD;
 use trace_header::byte_at;
+use trace_header::count_of;
 use trace_header::refusal;
-use trace_header::stated;
 
 // The bytes of a record: one with the bits of BCSR, the segment, the byte of the address phase, and the data byte.
 const STATUS_AT: usize = 0;
@@ -30,7 +30,7 @@ pub fn count(trace: &[u8]) -> usize
     ensures { λ n. ⌜ n ≡ givenOf (now (trace .entry)) ⌝ }
 {
     let taken = refusal(trace) == 0;
-    if taken { stated(trace) } else { 0 }
+    if taken { count_of(trace) } else { 0 }
 }
 
 // The number that refuses record n, 5 to 9, or 0.
@@ -42,7 +42,7 @@ pub fn record_refusal(trace: &[u8], n: usize) -> u8
     if refused {
         return no;
     }
-    let past = stated(trace) <= n;
+    let past = count_of(trace) <= n;
     if past { 9 } else { 0 }
 }
 

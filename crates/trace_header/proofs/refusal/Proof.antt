@@ -26,7 +26,7 @@ returns-4 c =
       mark .before .if1 .left,
       ← mark .marked .ensures,
       ← version .word-at .ensures .0,
-      ← count .stated .ensures .0,
+      ← count .count-of .ensures .0,
     )
 
 returns-5 : tie.Need-returns-5
@@ -43,7 +43,7 @@ returns-5 c =
       mark .before .if1 .left,
       ← mark .marked .ensures,
       ← version .word-at .ensures .0,
-      ← count .stated .ensures .0,
+      ← count .count-of .ensures .0,
     )
 
 returns-6 : tie.Need-returns-6
@@ -60,7 +60,7 @@ returns-6 c =
       mark .before .if1 .left,
       ← mark .marked .ensures,
       ← version .word-at .ensures .0,
-      ← count .stated .ensures .0,
+      ← count .count-of .ensures .0,
     )
 
 pub refusal-spec : {M : Type 1} → statement M

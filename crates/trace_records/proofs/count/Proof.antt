@@ -11,5 +11,5 @@ count-spec =
     (tie.spec
     (λ c κs. search needs)
     (λ c κs. search needs)
-    (λ c. simp (c .before .if1 .taken, ← c .before .before .refusal .ensures, ← c .stated .ensures .0))
+    (λ c. simp (c .before .if1 .taken, ← c .before .before .refusal .ensures, ← c .count-of .ensures .0))
     (λ c. simp (c .if1 .left, ← c .before .refusal .ensures)))

@@ -16,11 +16,11 @@ record-refusal-spec =
       c .if2 .taken,
       c .before .before .if1 .left,
       ← c .before .before .before .refusal .ensures,
-      ← c .before .stated .ensures .0,
+      ← c .before .count-of .ensures .0,
     ))
     (λ c. simp (
       c .if2 .left,
       c .before .before .if1 .left,
       ← c .before .before .before .refusal .ensures,
-      ← c .before .stated .ensures .0,
+      ← c .before .count-of .ensures .0,
     )))

@@ -14,7 +14,7 @@ returns c =
     let at3 = at4 .before .before .before .before in
     let at2 = at3 .before .before .before .before in
     let at1 = at2 .before .before .before .before in
-    simp (← at1 .before .before .before .bit-of .ensures, ← at1 .before .before .bit-of2 .ensures) (
+    simp (← at1 .before .before .before .bit-text .ensures, ← at1 .before .before .bit-text2 .ensures) (
       then (at1 .put .ensures .0)
           (then (at2 .put2 .ensures .0)
           (then (at3 .put3 .ensures .0)

@@ -8,7 +8,7 @@ returns : tie.Need-returns
 returns c =
     let at2 = c .before .before in
     let at1 = at2 .before .before .before .before in
-    simp (← at1 .before .before .before .digit-of .ensures, ← at1 .before .before .digit-of2 .ensures)
+    simp (← at1 .before .before .before .digit .ensures, ← at1 .before .before .digit2 .ensures)
     (then (at1 .put .ensures .0) (at2 .put2 .ensures .0), search needs)
 
 pub put-hex-spec : {M : Type 1} → statement M
