@@ -13,7 +13,8 @@ use Rattle.rules.specs.Flags.{without}
 use Rattle.rules.specs.Masks.{CPUI, DMAI, SWW, FATL}
 use Rattle.rules.specs.PowerOn.{blank}
 use Rattle.rules.specs.Replies.{off, plain, refused}
-use Rattle.rules.specs.Entry.{replaced, indexOf, nextCounter, moved, writtenBy}
+use Rattle.rules.specs.Computed.{moving}
+use Rattle.rules.specs.Entry.{replaced}
 use Rattle.rules.specs.Commands.{replied, programmed, entry, restarted, acted, executed}
 use Rattle.rules.specs.Registers.{withVtr}
 use Rattle.rules.specs.Step.{withFlags, changed}
@@ -163,7 +164,7 @@ no-clash resets a = refl
 
 pub passes : (e : Effect) (k : Command) (u : Unit) (c : Cycle) → length (u .table) ≡ 64 → c .read ≡ false → clash e k ≡ false
     → done k (does e u) c .unit ≡ does e (done k u c .unit)
-unfolding does executed programmed replied entry restarted refused plain changed writtenBy moved indexOf nextCounter replaced
+unfolding does executed programmed replied entry restarted refused plain changed moving
 passes e (Act a) u c h w t =
     ap left (act-done a (does e u) c) ∙ either e (effect a) u ∙ sym (ap (λ (s : Stepped). does e (left s)) (act-done a u c))
 passes (clears m) Mr u c h w t = refl

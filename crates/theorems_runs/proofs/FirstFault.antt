@@ -12,6 +12,7 @@ use Rattle.rules.proofs.FlagLaws.{has-bit}
 use Rattle.rules.specs.Flags.{has, lacks}
 use Rattle.rules.specs.Masks.{SYS, RDV, SYSV, SLV, CPUIV, EXCV, PWW, PRIMARY}
 use Rattle.rules.specs.PowerOn.{blank}
+use Rattle.rules.specs.Registers.{withVtr}
 use Rattle.rules.specs.Seen.{segment, cycle}
 use Rattle.rules.specs.Runs.{units}
 use Rattle.rules.specs.Status.{quieted}
@@ -19,6 +20,8 @@ use Rattle.rules.specs.Recording.{firstEntry, added, raised, recorded}
 use Rattle.rules.specs.Memory.{begun, noted, resumed}
 use Rattle.rules.specs.Step.{after, stepped}
 use Rattle.rules.specs.declared.Cycle.{Cycle}
+use Rattle.rules.specs.declared.Faults.{Faults}
+use Rattle.rules.specs.declared.Fetched.{Fetched}
 use Rattle.rules.specs.declared.Registers.{Registers}
 use Rattle.rules.specs.declared.Unit.{Unit}
 use Rattle.theorems_runs.specs.FirstFault.{wipes, FaultKept, WipesNot, FirstFaultKept, FlagNeeded, EachWipes}
@@ -54,16 +57,24 @@ low-bit m e (suc (suc (suc (suc (suc (suc k)))))) h = absurd (omega arith)
 and-kept : (v m : ℕ) → m % 64 ≡ 63 → Kept v (bitAnd v m)
 and-kept v m f = by-bit v (bitAnd v m) λ k h e. has-and k v m ∙ rw (e, low-bit m f k h)
 
-kept-refl : (r : Registers) → FaultKept r r
-kept-refl r =
+-- the flags kept, and all else of the fault and of the fetch as it was
+kept-by : {r s : Registers} → Kept (r .faults .vtr) (s .faults .vtr) → withVtr s (r .faults .vtr) .faults ≡ r .faults
+    → s .fetched ≡ r .fetched → FaultKept r s
+kept-by flags same fetched =
     record {
-      flags = (λ e. e, (λ e. e, (λ e. e, (λ e. e, (λ e. e, (λ e. e, refl))))));
-      vsn = refl;
-      voff = refl;
-      bcsr = refl;
-      isn = refl;
-      ioff = refl;
+      flags = flags;
+      vsn = ap (λ (f : Faults). f .vsn) same;
+      voff = ap (λ (f : Faults). f .voff) same;
+      bcsr = ap (λ (f : Faults). f .bcsr) same;
+      isn = ap (λ (f : Fetched). f .isn) fetched;
+      ioff = ap (λ (f : Fetched). f .ioff) fetched;
     }
+
+all-kept : (v : ℕ) → Kept v v
+all-kept v = (λ e. e, (λ e. e, (λ e. e, (λ e. e, (λ e. e, (λ e. e, refl))))))
+
+kept-refl : (r : Registers) → FaultKept r r
+kept-refl r = kept-by (all-kept (r .faults .vtr)) refl refl
 
 kept-then : {r s t : Registers} → FaultKept r s → FaultKept s t → FaultKept r t
 kept-then {r} {s} {t} a b =
@@ -89,23 +100,23 @@ recorded-stands r q c event p k =
     by-row (Stands r) q c event (p, k) (λ n t. absurd (true≢false (sym t ∙ p)))
     (λ t. (
       lacks-or (q .faults .vtr) event ∙ rw p,
-      kept-then k (record { flags = or-kept (q .faults .vtr) event; vsn = refl; voff = refl; bcsr = refl; isn = refl; ioff = refl }),
+      kept-then k (kept-by (or-kept (q .faults .vtr) event) refl refl),
     ))
     (λ flag t. (
       lacks-or (q .faults .vtr) flag ∙ rw p,
-      kept-then k (record { flags = or-kept (q .faults .vtr) flag; vsn = refl; voff = refl; bcsr = refl; isn = refl; ioff = refl }),
+      kept-then k (kept-by (or-kept (q .faults .vtr) flag) refl refl),
     ))
 
 noted-stands : (r q : Registers) (c : Cycle) (stores holds : Bool) → stores ≡ false → Stands r q → Stands r (noted q stores holds c)
 unfolding noted
 noted-stands r q c true holds e h = absurd (true≢false e)
 noted-stands r q c false holds e h =
-    (h .0, record { flags = h .1 .flags; vsn = h .1 .vsn; voff = h .1 .voff; bcsr = h .1 .bcsr; isn = h .1 .isn; ioff = h .1 .ioff })
+    (h .0, kept-then (h .1) (kept-by (all-kept (q .faults .vtr)) refl refl))
 
 begun-kept : (r : Registers) (starts : Bool) → FaultKept r (begun r starts)
 unfolding begun
 begun-kept r starts =
-    record { flags = kept-refl r .flags; vsn = refl; voff = refl; bcsr = refl; isn = refl; ioff = refl }
+    kept-by (all-kept (r .faults .vtr)) refl refl
 
 begun-faulted : (r : Registers) (starts : Bool) → faulted r → faulted (begun r starts)
 unfolding begun
@@ -114,15 +125,15 @@ begun-faulted r starts p = p
 became-stands : {back wiped : Bool} {c : Cycle} {r s : Registers} → Became back wiped c r s → wiped ≡ false → faulted r → Stands r s
 unfolding quieted resumed
 became-stands {r} stayed e p = (p, kept-refl r)
-became-stands {r} (controls k f) e p = (p, record { flags = kept-refl r .flags; vsn = refl; voff = refl; bcsr = refl; isn = refl; ioff = refl })
+became-stands {r} (controls k f) e p = (p, kept-by (all-kept (r .faults .vtr)) refl refl)
 became-stands (empties w) e p = absurd (true≢false (sym w ∙ e))
 became-stands {r} (clears flag f) e p = (
   lacks-and (r .faults .vtr) (255 - flag) f ∙ p,
-  record { flags = and-kept (r .faults .vtr) (255 - flag) f; vsn = refl; voff = refl; bcsr = refl; isn = refl; ioff = refl },
+  kept-by (and-kept (r .faults .vtr) (255 - flag) f) refl refl,
 )
 became-stands (restarts mr f w) e p = absurd (true≢false (sym w ∙ e))
-became-stands {r} (quiets f) e p = (p, record { flags = kept-refl r .flags; vsn = refl; voff = refl; bcsr = refl; isn = refl; ioff = refl })
-became-stands {r} resumes e p = (p, record { flags = kept-refl r .flags; vsn = refl; voff = refl; bcsr = refl; isn = refl; ioff = refl })
+became-stands {r} (quiets f) e p = (p, kept-by (all-kept (r .faults .vtr)) refl refl)
+became-stands {r} resumes e p = (p, kept-by (all-kept (r .faults .vtr)) refl refl)
 became-stands {r} (begins starts) e p = (begun-faulted r starts p, begun-kept r starts)
 became-stands {c} {r} (records starts event small stores holds w) e p =
     noted-stands r _ c stores holds (go stores w)
