@@ -10,6 +10,13 @@ pub mod service;
 pub mod steps;
 pub mod story;
 
+/// The captures, the first of the set, and the scripts that go through the
+/// proved programs if no other number is asked for. They tell every wrong
+/// reading that can be told; the package `wrong-readings` holds them to it.
+pub const COMPARED: usize = 150;
+pub const SCRIPTS: u64 = 10;
+pub const CASES: usize = 100;
+
 /// The bytes of one file of a seed's set: every third is a refused trace, each
 /// kind in its turn, the others are stories. The first two have the least and
 /// the most records, so that the smallest set has both.

@@ -16,6 +16,8 @@ use witness::unit::Unit;
 
 /// One wrong reading: the text it prints for a trace, and its step.
 pub struct Wrong {
+    /// The rule that it breaks, as `Trait::method`; the first, if there are two.
+    pub rule: &'static str,
     pub says: &'static str,
     /// Why nothing can tell it from the right reading, if nothing can.
     pub same: Option<&'static str>,
@@ -24,8 +26,13 @@ pub struct Wrong {
 }
 
 impl Wrong {
-    const fn reading<R: Text>(says: &'static str, same: Option<&'static str>) -> Wrong {
+    const fn reading<R: Text>(
+        rule: &'static str,
+        says: &'static str,
+        same: Option<&'static str>,
+    ) -> Wrong {
         Wrong {
+            rule,
             says,
             same,
             run: R::run,
@@ -54,14 +61,15 @@ pub fn readings() -> Vec<&'static Wrong> {
 /// reason why a reading comes out the same as the right one.
 macro_rules! wrong {
     ($rules:ident: $(
-        $name:ident $says:literal $(same $same:literal)? { $($methods:tt)* }
+        $name:ident $says:literal $(same $same:literal)? { fn $method:ident $($methods:tt)* }
     )*) => {
         $(
             struct $name;
-            $crate::wrong::with_paper!($rules $name { $($methods)* });
+            $crate::wrong::with_paper!($rules $name { fn $method $($methods)* });
         )*
         pub const READINGS: &[$crate::wrong::Wrong] = &[$(
             $crate::wrong::Wrong::reading::<$name>(
+                concat!(stringify!($rules), "::", stringify!($method)),
                 $says,
                 $crate::wrong::reason!($($same)?),
             )
