@@ -421,8 +421,8 @@ fn differing<T: PartialEq>(one: &[T], other: &[T]) -> Vec<usize> {
 #[test]
 fn the_stored_captures_differ_where_the_manual_says() {
     let traces: [&[u8]; 2] = [
-        include_bytes!("../../samples/others.mbt"),
-        include_bytes!("../../samples/others-twin.mbt"),
+        include_bytes!("../../../samples/others.mbt"),
+        include_bytes!("../../../samples/others-twin.mbt"),
     ];
     let [one, other] = traces.map(|trace| trace[7..].chunks(4).collect::<Vec<_>>());
     assert_eq!(differing(&one, &other), [1, 2, 3, 4]);

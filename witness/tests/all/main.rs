@@ -1,0 +1,9 @@
+//! The tests of the witness, in one program.
+
+mod exchange;
+mod generated;
+mod others;
+mod refusals;
+mod rows;
+mod sample;
+mod script;
