@@ -1,29 +1,36 @@
-//! `coverage FILE...`: runs the witness over captures and prints how often
-//! each row of document 01 was met. Fails if a row that can be met from
-//! power-on was met too seldom.
+//! `coverage SEED`: runs the witness over the captures of a seed and prints
+//! how often each row of document 01 was met. Fails if a row that can be met
+//! from power-on was met too seldom.
 
-use std::fs;
 use std::process::ExitCode;
 
 use witness::coverage::{Row, Table, ENOUGH};
+use witness::generate::{file, SET};
 
 fn main() -> ExitCode {
+    let arguments: Vec<String> = std::env::args().skip(1).collect();
+    let Ok([seed]) = <[String; 1]>::try_from(arguments) else {
+        return usage();
+    };
+    let Ok(seed) = seed.parse() else {
+        return usage();
+    };
     let mut table = Table::new();
-    for path in std::env::args().skip(1) {
-        match fs::read(&path) {
-            Ok(trace) => table.add(&trace),
-            Err(error) => {
-                eprintln!("coverage: {path}: {error}");
-                return ExitCode::FAILURE;
-            }
-        }
+    for number in 0..SET {
+        table.add(&file(seed, number));
     }
     print!("{table}");
-    if table.rows.iter().all(Row::covered) {
-        return ExitCode::SUCCESS;
-    }
     for row in table.rows.iter().filter(|row| !row.covered()) {
         eprintln!("coverage: fewer than {ENOUGH}: {}", row.name);
     }
-    ExitCode::FAILURE
+    if table.rows.iter().all(Row::covered) {
+        ExitCode::SUCCESS
+    } else {
+        ExitCode::FAILURE
+    }
+}
+
+fn usage() -> ExitCode {
+    eprintln!("usage: coverage SEED");
+    ExitCode::from(2)
 }

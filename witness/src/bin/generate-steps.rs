@@ -1,26 +1,38 @@
-//! `generate-steps SEED COUNT`: writes a step script of COUNT cases to
-//! standard output.
+//! `generate-steps SEED DIR`: writes the step scripts of a seed, DIR/NN.txt.
 
-use std::io::{self, Write};
+use std::fs;
+use std::io;
+use std::path::Path;
 use std::process::ExitCode;
 
-use witness::generate::steps::script;
+use witness::generate::steps::scripts;
 
 fn main() -> ExitCode {
     let arguments: Vec<String> = std::env::args().skip(1).collect();
-    let numbers: Option<Vec<u64>> = arguments
-        .iter()
-        .map(|argument| argument.parse().ok())
-        .collect();
-    let Some(&[seed, cases]) = numbers.as_deref() else {
-        eprintln!("usage: generate-steps SEED COUNT");
-        return ExitCode::from(2);
+    let [seed, directory] = arguments.as_slice() else {
+        return usage();
     };
-    match io::stdout().write_all(script(seed, cases as usize).as_bytes()) {
+    let Ok(seed) = seed.parse() else {
+        return usage();
+    };
+    match write_all(seed, Path::new(directory)) {
         Ok(()) => ExitCode::SUCCESS,
         Err(error) => {
             eprintln!("generate-steps: {error}");
             ExitCode::FAILURE
         }
     }
+}
+
+fn usage() -> ExitCode {
+    eprintln!("usage: generate-steps SEED DIR");
+    ExitCode::from(2)
+}
+
+fn write_all(seed: u64, directory: &Path) -> io::Result<()> {
+    fs::create_dir_all(directory)?;
+    for (number, script) in scripts(seed).enumerate() {
+        fs::write(directory.join(format!("{number:02}.txt")), script)?;
+    }
+    Ok(())
 }

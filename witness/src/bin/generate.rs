@@ -1,18 +1,21 @@
-//! `generate SEED COUNT DIR`: writes COUNT captures DIR/NNNN.mbt.
+//! `generate SEED [COUNT] DIR`: writes captures DIR/NNNN.mbt, as many as are
+//! compared if no COUNT is given.
 
 use std::fs;
 use std::io;
 use std::path::Path;
 use std::process::ExitCode;
 
-use witness::generate::file;
+use witness::generate::{file, COMPARED};
 
 fn main() -> ExitCode {
     let arguments: Vec<String> = std::env::args().skip(1).collect();
-    let [seed, count, directory] = arguments.as_slice() else {
-        return usage();
+    let (seed, count, directory) = match arguments.as_slice() {
+        [seed, directory] => (seed.parse(), Ok(COMPARED), directory),
+        [seed, count, directory] => (seed.parse(), count.parse(), directory),
+        _ => return usage(),
     };
-    let (Ok(seed), Ok(count)) = (seed.parse(), count.parse()) else {
+    let (Ok(seed), Ok(count)) = (seed, count) else {
         return usage();
     };
     match write_all(seed, count, Path::new(directory)) {
@@ -25,7 +28,7 @@ fn main() -> ExitCode {
 }
 
 fn usage() -> ExitCode {
-    eprintln!("usage: generate SEED COUNT DIR");
+    eprintln!("usage: generate SEED [COUNT] DIR");
     ExitCode::from(2)
 }
 

@@ -10,6 +10,9 @@ pub mod service;
 pub mod steps;
 pub mod story;
 
+/// The captures of a seed that must meet every row often enough.
+pub const SET: usize = 3_000;
+
 /// The captures, the first of the set, and the scripts that go through the
 /// proved programs if no other number is asked for. They tell every wrong
 /// reading that can be told; the package `wrong-readings` holds them to it.

@@ -10,10 +10,16 @@ use crate::unit::{attribute, mode, violation, Descriptor, Unit};
 use super::bus::{violates, warns, warns_at_system_stack, Bus};
 use super::random::Random;
 use super::story::story;
+use super::{CASES, SCRIPTS};
 
 /// A kind stands here as often as it should come. Two are damaged units, which
 /// go nowhere, so sane ones come twice.
 const KINDS: [&str; 7] = ["sane", "orphan", "sane", "damaged", "range", "any", "story"];
+
+/// The scripts of a seed.
+pub fn scripts(seed: u64) -> impl Iterator<Item = String> {
+    (0..SCRIPTS).map(move |number| script(seed.wrapping_add(number), CASES))
+}
 
 /// A script of so many cases, each with a unit of its own.
 pub fn script(seed: u64, count: usize) -> String {
