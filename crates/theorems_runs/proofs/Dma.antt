@@ -11,7 +11,7 @@ use Rattle.rules.specs.Masks.{RD, TRNS}
 use Rattle.rules.specs.PowerOn.{faultsOf, notesOf, blank, powerOn}
 use Rattle.rules.specs.Refusals.{damaged, outOfRange}
 use Rattle.rules.specs.Replies.{off, plain, refused, seen}
-use Rattle.rules.specs.Seen.{segment, noNote, cycle, command, unitHolding, unitWith, acknowledge as acknowledges}
+use Rattle.rules.specs.Seen.{segment, cycleWith, noNote, cycle, command, unitHolding, unitWith, acknowledge as acknowledges}
 use Rattle.rules.specs.Status.{resetBy, ignored, purposeOf, byPurpose, byStatus}
 use Rattle.rules.specs.Recording.{eventOf, recorded}
 use Rattle.rules.specs.Memory.{begun, noted, checked, accessed, aborted, untranslated, memoryBy, aborts, memory}
@@ -188,17 +188,7 @@ dma-answers a b c h =
 
 -- a DMA write at segment 0, offset 0, with the reset line on or off
 dmaWrite : (reset : Bool) → Cycle
-dmaWrite reset = record {
-  status = 8;
-  read = false;
-  normal = false;
-  dma = true;
-  select = false;
-  segment = 0;
-  offset = 0;
-  byte = 0;
-  reset = reset;
-}
+dmaWrite reset = cycleWith 8 false false true false 0 0 0 reset
 
 -- MR %C0 is cleared by a reset and written by a command
 pub dma-leaves-needs : DmaLeavesNeeds

@@ -12,7 +12,7 @@ use borrow.Author.Tests.{eqb-true}
 use Rattle.rules.specs.Flags.{without}
 use Rattle.rules.specs.Masks.{CPUI, DMAI, SWW, FATL}
 use Rattle.rules.specs.PowerOn.{blank}
-use Rattle.rules.specs.Replies.{off, plain, refused}
+use Rattle.rules.specs.Replies.{spoken, plain, refused}
 use Rattle.rules.specs.Computed.{moving}
 use Rattle.rules.specs.Entry.{replaced}
 use Rattle.rules.specs.Commands.{replied, programmed, entry, restarted, acted, executed}
@@ -71,7 +71,7 @@ does resets u = record { table = u .table; registers = restarted (u .registers) 
 
 -- what it answers: nothing is driven, and the trap line is as the request stands after it
 abbrev pub said : (request : Bool) → Answer
-said request = record { kind = kind.Command; address = off; sup = false; trap = request; drives = false; byte = 0 }
+said request = spoken kind.Command request false 0
 
 abbrev pub request : Unit → Bool
 request u = u .registers .notes .request

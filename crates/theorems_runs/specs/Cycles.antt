@@ -8,6 +8,7 @@ use Rattle.rules.specs.Bus.{cpu, write}
 use Rattle.rules.specs.Flags.{has}
 use Rattle.rules.specs.Masks.{NMS, MST, URS, TRNS, MSEN, UPPER}
 use Rattle.rules.specs.Refusals.{outOfRange}
+use Rattle.rules.specs.Seen.{cycleWith}
 use Rattle.rules.specs.declared.Cycle.{Cycle}
 use Rattle.rules.specs.declared.Unit.{Unit}
 use Rattle.theorems_runs.specs.Sequences.{among}
@@ -84,14 +85,4 @@ writes n c = not (outOfRange c) && selectedCommand c && write c && eqb (c .offse
 
 -- a CPU write in system mode with select on, by its status, its code, its data byte and the reset line
 abbrev pub written : (status code byte : ℕ) → (reset : Bool) → Cycle
-written status code byte reset = record {
-  status = status;
-  read = false;
-  normal = false;
-  dma = false;
-  select = true;
-  segment = 0;
-  offset = code;
-  byte = byte;
-  reset = reset;
-}
+written status code byte reset = cycleWith status false false false true 0 code byte reset

@@ -3,6 +3,7 @@
 use mathlib.Core.Bool.{Bool, true, false}
 use mathlib.Core.List.{List, [], _∷_}
 use Prim.Native.Nat.{ℕ}
+use Rattle.rules.specs.Seen.{cycleWith}
 use Rattle.rules.specs.declared.Cycle.{Cycle}
 
 -- a trace of two records, with a version
@@ -39,20 +40,8 @@ recordRows =
 -- a part of a trace, and its cycle
 abbrev pub decodedRow : (part : List ℕ) → (status : ℕ) → (read normal dma select : Bool)
     → (segment : ℕ) → (reset : Bool) → (offset byte : ℕ) → List ℕ × Cycle
-decodedRow part status read normal dma select segment reset offset byte = (
-  part,
-  record {
-    status = status;
-    read = read;
-    normal = normal;
-    dma = dma;
-    select = select;
-    segment = segment;
-    offset = offset;
-    byte = byte;
-    reset = reset;
-  },
-)
+decodedRow part status read normal dma select segment reset offset byte =
+    (part, cycleWith status read normal dma select segment offset byte reset)
 
 abbrev pub decodedRows : List (List ℕ × Cycle)
 decodedRows =
