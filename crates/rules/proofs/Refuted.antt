@@ -45,10 +45,10 @@ wrongTurns =
     (translated 0xF0 false false) (translating (segment 0 0xF0 0xE0)) ∷
     turned (row (translating (segment 0 0xF0 0x20)) (writes 0xFF) (translated 0xFF false false) (translating (segment 0 0xF0 0xE0)))
     (translated 0xFF false true) (standing (faultsOf 0x20 0 0xFF 0x28) warned (segment 0 0xF0 0xE0)) ∷
-    -- "or a DIRW range measured as limit + 1 blocks": the block below the limit
-    turned (row (translating (segment 0 0xF0 0x20)) (writes 0xEF) (translated 0xEF true true)
-    (standing (faultsOf 0x04 0 0xEF 0x28) everyNote (segment 0 0xF0 0x20)))
-    (translated 0xEF false false) (translating (segment 0 0xF0 0xE0)) ∷
+    -- "or a DIRW range measured as limit + 1 blocks": %F1 blocks would begin at %0F
+    turned (row (translating (segment 0 0xF0 0x20)) (writes 0x0F) (translated 0x0F true true)
+    (standing (faultsOf 0x04 0 0x0F 0x28) everyNote (segment 0 0xF0 0x20)))
+    (translated 0x0F false false) (translating (segment 0 0xF0 0xE0)) ∷
     -- "FATL set by two violations of one instruction."
     turned (row (unitIn 0x01 everyNote 0) (readAt 0x41) (translated 0x2341 true true) (unitIn 0x05 everyNote 0))
     (translated 0x2341 true true) (unitIn 0x81 everyNote 0) ∷
