@@ -1,5 +1,5 @@
 -- No second answer fits what an exported function promises: what a caller learns of two answers to one call makes them equal, and every lent
--- buffer too. A buffer counts by its contents, wherever it stands. The laws of the other public calls stand in `promises`; those of the
+-- buffer too. A buffer counts by its contents, wherever it stands. The laws of the other public calls stand in `theorems_promises`; those of the
 -- exported functions, which no proof uses, stand here, so that an edit can weaken a contract beside them.
 -- Assumes nothing.
 use mathlib.Core.Path.{_≡_}

@@ -1,4 +1,4 @@
-// mmurun: reads a trace from standard input, and writes the text that `listing` makes of it to standard output.
+// mmurun: reads a trace from standard input, and writes the text that `text::listing` makes of it to standard output.
 ghost use mathlib.Core.Path.{_≡_};
 ghost use Prim.Native.Nat.{_≤_};
 ghost use lib.ListN.{length};
@@ -33,7 +33,7 @@ fn room() -> [u8; text::listing::ROOM]
 }
 
 // The longest good trace has 64,007 bytes. Of a longer input the first 65,536 bytes are read, and their text is that of the whole
-// (`cut` in the proofs of `listing`).
+// (`cut` in the proofs of `text`).
 fn main() {
     let mut trace = io::large_buffer();
     let n = io::read_full(STDIN_FILENO, &mut trace);

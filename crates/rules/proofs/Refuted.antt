@@ -8,7 +8,6 @@ use Rattle.rules.specs.Computed.{computed}
 use Rattle.rules.specs.Recording.{firstEntry}
 use Rattle.rules.specs.PowerOn.{faultsOf, notesOf}
 use Rattle.rules.specs.Seen.{Row, row, rowAfter, holds, segment, noNote, warned, everyNote, standing, translating}
-use Rattle.rules.specs.PowerOn.{faultsOf, notesOf}
 use Rattle.rules.specs.Seen.{cycle, writes, command, drivesBlock, drivesByte, drivesNothing, translated}
 use Rattle.rules.specs.MemoryRows.{unitAs, unitIn, fetchedAt, fetchAt, readAt, writeAt, requested}
 use Rattle.rules.specs.CodeRows.{unitBy, unitAt, tableWith, own}

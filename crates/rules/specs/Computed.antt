@@ -16,16 +16,20 @@ use Rattle.rules.specs.Step.{decided, placeOf, changed, decision, after}
 use Rattle.rules.specs.Runs.{answers, final, units}
 
 unfoldable pub dispatching : ℕ
-unfolding damaged outOfRange resetBy acknowledgeByte quieted acknowledged ignored purposeOf byStatus
+unfolding resetBy acknowledgeByte quieted acknowledged ignored purposeOf byStatus
 dispatching = 0
+
+unfoldable pub replying : ℕ
+unfolding damaged outOfRange plain refused seen
+replying = 0
 
 unfoldable pub checking : ℕ
 unfolding wayOf blockOf addressOf rightsOf outOfLength warns
 checking = 0
 
-unfoldable pub recording : ℕ
-unfolding plain refused seen eventOf busStatus firstEntry added raised recorded
-recording = 0
+unfoldable pub entering : ℕ
+unfolding eventOf busStatus firstEntry added raised recorded
+entering = 0
 
 unfoldable pub accessing : ℕ
 unfolding resumed aborted begun untranslated touched touchedBy noted checked accessed memory
@@ -44,5 +48,5 @@ unfolding decided placeOf changed decision after answers final units
 stepping = 0
 
 unfoldable pub computed : ℕ
-unfolding dispatching checking recording accessing commanding moving stepping
+unfolding dispatching replying checking entering accessing commanding moving stepping
 computed = 0

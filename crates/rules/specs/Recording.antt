@@ -41,7 +41,7 @@ added r event = withVtr r (with (r .faults .vtr) event)
 
 -- request and await set where `asks` holds, else as they were
 abbrev pub asked : Notes → (asks : Bool) → Notes
-asked n asks = record { request = n .request || asks; awaits = n .awaits || asks; own = n .own; hold = n .hold }
+asked n asks = notesOf (n .request || asks) (n .awaits || asks) (n .own) (n .hold)
 
 -- "FATL is set; request and await only if FATL was clear"; the same of SWW, "with request and await only while FATL is clear"
 unfoldable pub raised : Registers → (flag : ℕ) → Registers

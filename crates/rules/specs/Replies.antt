@@ -1,4 +1,4 @@
--- What the unit answers, and decides, where no more is to be said of it: answers are made here and nowhere else.
+-- What the unit answers, and what is decided where nothing more is to be said: the rules make answers here and nowhere else.
 use mathlib.Core.Bool.{Bool, false}
 use Prim.Native.Nat.{ℕ}
 use Rattle.rules.specs.declared.Address.{Address}

@@ -7,7 +7,7 @@ use Prim.Native.Nat.{ℕ, zero, suc}
 use lib.Dec.{eqb}
 use lib.ListN.{set}
 use Rattle.rules.specs.Kinds.{letterOf, numberOf}
-use Rattle.rules.specs.PowerOn.{faultsOf, notesOf, unitOf, powerOn}
+use Rattle.rules.specs.PowerOn.{faultsOf, notesOf, unitOf, quiet, powerOn}
 use Rattle.rules.specs.Step.{stepped}
 use Rattle.rules.specs.Runs.{final}
 use Rattle.rules.specs.declared.Answer.{Answer}
@@ -89,7 +89,7 @@ abbrev pub segment : (base limit attributes : ℕ) → Descriptor
 segment base limit attributes = record { base = base; limit = limit; attributes = attributes }
 
 abbrev pub noNote : Notes
-noNote = notesOf false false false false
+noNote = quiet
 
 -- request, await and own of a first entry, and with hold
 abbrev pub warned : Notes
@@ -163,8 +163,8 @@ resets = resetAt 0 false
 
 -- Answers
 
-abbrev pub answerOf : Kind → (driven : Bool) → (block : ℕ) → (sup trap drives : Bool) → (byte : ℕ) → Answer
-answerOf k driven block sup trap drives b = record {
+abbrev pub answerWith : Kind → (driven : Bool) → (block : ℕ) → (sup trap drives : Bool) → (byte : ℕ) → Answer
+answerWith k driven block sup trap drives b = record {
   kind = k;
   address = record { driven = driven; block = block };
   sup = sup;
@@ -175,15 +175,15 @@ answerOf k driven block sup trap drives b = record {
 
 -- the address driven, and no data byte
 abbrev pub drivesBlock : Kind → (block : ℕ) → (sup trap : Bool) → Answer
-drivesBlock k block sup trap = answerOf k true block sup trap false 0
+drivesBlock k block sup trap = answerWith k true block sup trap false 0
 
 -- the data byte driven, and no address
 abbrev pub drivesByte : Kind → (byte : ℕ) → (trap : Bool) → Answer
-drivesByte k b trap = answerOf k false 0 false trap true b
+drivesByte k b trap = answerWith k false 0 false trap true b
 
 -- "not driven, [..] marked so and has the value 0"
 abbrev pub drivesNothing : Kind → (sup trap : Bool) → Answer
-drivesNothing k sup trap = answerOf k false 0 sup trap false 0
+drivesNothing k sup trap = answerWith k false 0 sup trap false 0
 
 abbrev pub translated : (block : ℕ) → (sup trap : Bool) → Answer
 translated = drivesBlock kind.Translated

@@ -303,12 +303,12 @@ impl Unit {
     pub fn power_on() -> Unit
         ensures { λ u. ⌜ u ≡ powerOn ⌝ }
     {
-        let none = Descriptor {
+        let blank = Descriptor {
             base: 0,
             limit: 0,
             attributes: 0,
         };
-        let table = [none; Unit::DESCRIPTORS];
+        let table = [blank; Unit::DESCRIPTORS];
         let registers = Registers {
             control: Control {
                 mr: 0,

@@ -1,4 +1,4 @@
-// Answers: they are made here and nowhere else. And the kind of an answer as a letter and a number.
+// Answers: all are made here but the acknowledge's (`unit_dispatch::status`). And the kind of an answer as a letter and a number.
 ghost use mathlib.Core.Path.{_≡_};
 ghost use Rattle.rules.specs.Replies.{seen, spoken, plain, refused};
 ghost use Rattle.rules.specs.Kinds.{letterOf, numberOf};

@@ -9,8 +9,8 @@ use rules::Fetched;
 use rules::Notes;
 use rules::Registers;
 
-// All that a command, a reset or an acknowledge may change: what was stored of a fault and of a fetch stays. The registers are written out
-// here, and where a fault or a fetch is stored.
+// All registers as said, but those that a first entry or a fetch stores, which stay. The registers are written out here, and where these
+// are stored.
 fn with_all(
     r: Registers,
     mr: u8,

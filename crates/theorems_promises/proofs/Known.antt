@@ -14,7 +14,7 @@ use lib.Seq.{sets}
 use Rattle.text.specs.Listed.{filled, lengthOf}
 use Rattle.trace_reader.specs.declared.Found.{Found}
 use Rattle.trace_reader.specs.declared.Step.the-variants.{Record, No}
-use Rattle.rules.specs.Seen.{segment, translating, cycle}
+use Rattle.rules.specs.Seen.{segment, translating, cycle, translated}
 use Rattle.rules.specs.declared.Kind.the-variants.{Translated}
 use Rattle.rules.specs.declared.Stepped.{Stepped}
 use Rattle.unit_lent.proofs.step_by_lending.Kinds as step-by-lending-k
@@ -140,14 +140,7 @@ pub step-by-lending-known : (κs : Lfts 0) (s : Stepped) (e : AtExit (endedOf 0 
     → step-by-lending.Learnt κs (translating (segment 8977 32 1), (cycle false true false 8 0 21, tt)) s e
     → s ≡ record {
       unit = translating (segment 8977 32 129);
-      answer = record {
-        kind = Translated;
-        address = record { driven = true; block = 8998 };
-        sup = false;
-        trap = false;
-        drives = false;
-        byte = 0;
-      };
+      answer = translated 8998 false false;
     }
 unfolding allComputed
 step-by-lending-known κs s e l = l

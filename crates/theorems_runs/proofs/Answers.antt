@@ -147,8 +147,8 @@ module _ (r : Registers) (d : Descriptor) (c : Cycle) where
   wayHere : Way
   wayHere = wayOf (r .control .mr) c
 
-  linesHere : Address
-  linesHere = addressOf wayHere (d .base) c
+  addressHere : Address
+  addressHere = addressOf wayHere (d .base) c
 
   pub supHere : Bool
   supHere =
@@ -161,13 +161,13 @@ module _ (r : Registers) (d : Descriptor) (c : Cycle) where
       (earliest false false (isCommand p && y && not (isListed (commandOf (c .offset))))
       (isCommand p && y && (write c && isShow (commandOf (c .offset)) || c .read && isAct (commandOf (c .offset)))))
       false (isAcknowledge p && x) (isCommand p && y) (isMemory p) (aborts r c) (isTranslated wayHere) (isPassed wayHere))
-      (cond (isMemory p) linesHere off) (isMemory p && supHere)
-  unfolding wayHere linesHere supHere acknowledged ignored plain commanded memory
+      (cond (isMemory p) addressHere off) (isMemory p && supHere)
+  unfolding wayHere addressHere supHere acknowledged ignored plain commanded memory
   purpose-says purpose.Acknowledge true y = record { kind = refl; address = refl; sup = refl; left = accepts refl }
   purpose-says purpose.Acknowledge false y = record { kind = refl; address = refl; sup = refl; left = accepts refl }
   purpose-says purpose.Command x true = executed-says (commandOf (c .offset)) (c .read) _ _ _
   purpose-says purpose.Command x false = record { kind = refl; address = refl; sup = refl; left = accepts refl }
-  purpose-says purpose.Memory x y = memory-says (aborts r c) wayHere linesHere
+  purpose-says purpose.Memory x y = memory-says (aborts r c) wayHere addressHere
   purpose-says purpose.Other x y = record { kind = refl; address = refl; sup = refl; left = accepts refl }
 
   decided-says : (two one reset : Bool)
@@ -178,7 +178,7 @@ module _ (r : Registers) (d : Descriptor) (c : Cycle) where
       reset (not reset && eqb (c .status) 4 && cpu c) (not reset && eqb (c .status) 3 && (cpu c && c .select))
       (not reset && (leb 8 (c .status) && leb (c .status) 13))
       (not reset && (cpu c && c .read && eqb (c .status) 13) && r .notes .awaits) (isTranslated wayHere) (isPassed wayHere))
-      (cond (not two && not one && (not reset && (leb 8 (c .status) && leb (c .status) 13))) linesHere off)
+      (cond (not two && not one && (not reset && (leb 8 (c .status) && leb (c .status) 13))) addressHere off)
       (not two && not one && (not reset && (leb 8 (c .status) && leb (c .status) 13)) && supHere)
   unfolding refused resetBy plain byStatus
   decided-says true one reset = record { kind = refl; address = refl; sup = refl; left = refuses 2 refl }
@@ -205,7 +205,7 @@ pub says : (u : Unit) (c : Cycle)
     → Says (u .registers) (decision u c) (kindSaid u c)
     (cond (admitted u c && memoryCycle c) (addressOf (wayOf (u .registers .control .mr) c) (getD (u .table) (place u c) blank .base) c) off)
     (admitted u c && memoryCycle c && supHere (u .registers) (getD (u .table) (place u c) blank) c)
-unfolding decision decided wayHere linesHere
+unfolding decision decided wayHere addressHere
 says u c = decided-says (u .registers) (getD (u .table) (place u c) blank) c (damaged (u .registers)) (outOfRange c) (c .reset)
 
 -- Kind

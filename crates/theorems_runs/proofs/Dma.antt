@@ -137,8 +137,8 @@ module _ (c : Cycle) where
       kindBy (earliest two (outOfRange c) (unlisted c) (wrongWay c)) (c .reset) (acknowledge c) (selectedCommand c) (memoryCycle c) waits
       (translationConditions mr c) (passingConditions mr)
 
-  linesFrom : (two : Bool) → (mr : ℕ) → Descriptor → Address
-  linesFrom two mr d =
+  addressFrom : (two : Bool) → (mr : ℕ) → Descriptor → Address
+  addressFrom two mr d =
       cond (not two && not (outOfRange c) && memoryCycle c && (passingConditions mr || translationConditions mr c))
       (driven (cond (has mr TRNS) ((d .base + c .offset) % 65536) (c .segment * 256 + c .offset))) off
 
@@ -158,11 +158,11 @@ module _ (a b : Unit) (c : Cycle) (two : damaged (a .registers) ≡ damaged (b .
       go : {t t' w w' : Bool} {m m' : ℕ} → t ≡ t' → w ≡ w' → m ≡ m' → kindFrom c t w m ≡ kindFrom c t' w' m'
       go p q s = rw (p, q, s)
 
-  same-lines : stepped a c .answer .address ≡ stepped b c .answer .address
-  unfolding linesFrom
-  same-lines = address-exactly a c ∙ go two mr d ∙ sym (address-exactly b c)
+  same-address : stepped a c .answer .address ≡ stepped b c .answer .address
+  unfolding addressFrom
+  same-address = address-exactly a c ∙ go two mr d ∙ sym (address-exactly b c)
     where
-      go : {t t' : Bool} {m m' : ℕ} {x x' : Descriptor} → t ≡ t' → m ≡ m' → x ≡ x' → linesFrom c t m x ≡ linesFrom c t' m' x'
+      go : {t t' : Bool} {m m' : ℕ} {x x' : Descriptor} → t ≡ t' → m ≡ m' → x ≡ x' → addressFrom c t m x ≡ addressFrom c t' m' x'
       go p q s = rw (p, q, s)
 
   same-sup : stepped a c .answer .sup ≡ stepped b c .answer .sup
@@ -178,7 +178,7 @@ dma-answers a b c h =
     let two : damaged (a .registers) ≡ damaged (b .registers) = h .0 ∙ sym (h .1) in
     record {
       kind = same-kind a b c two (h .2) (h .3) (h .4);
-      address = same-lines a b c two (h .2) (h .3) (h .4);
+      address = same-address a b c two (h .2) (h .3) (h .4);
       sup = same-sup a b c two (h .2) (h .3) (h .4);
       drives = idle a c (h .2) .drives ∙ sym (idle b c (h .2) .drives);
       byte = idle a c (h .2) .byte ∙ sym (idle b c (h .2) .byte);

@@ -204,7 +204,7 @@ pub voff-no-vtr : ((cs : List Cycle) → orphan (final powerOn cs .registers .fa
 unfolding computed
 voff-no-vtr claim = true≢false (claim (command false 0x00 0xC0 ∷ readAt 0x40 ∷ []))
 
--- `ZeroExactly` past a byte: 256 has blank of the flags
+-- `ZeroExactly` past a byte: 256 has none of the flags
 pub byte-needed : ((vtr : ℕ) → vtr ≤ 256 → orphan vtr ≡ false → lacks vtr PRIMARY ≡ eqb vtr 0) → ⊥
 byte-needed claim = true≢false (claim 256 (lit≤ tt) refl)
 

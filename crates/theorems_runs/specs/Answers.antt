@@ -84,8 +84,8 @@ abbrev pub segmentOf : Unit → Cycle → Descriptor
 segmentOf u c = getD (u .table) (c .segment % 64) blank
 
 -- "TRNS clear: [..] segment x 256 + offset byte"; "Translated: base + offset byte, modulo 65,536, driven in a violation as well."
-abbrev pub addressOf : Unit → Cycle → ℕ
-addressOf u c =
+abbrev pub blockDriven : Unit → Cycle → ℕ
+blockDriven u c =
     cond (has (u .registers .control .mr) TRNS) ((segmentOf u c .base + c .offset) % 65536) (c .segment * 256 + c .offset)
 
 abbrev pub driven : (block : ℕ) → Address
@@ -93,7 +93,7 @@ driven b = record { driven = true; block = b }
 
 -- CLAIM: the address lines are driven exactly there, and so; else they are off, and "An address [..] that isn't driven [..] has the value 0".
 abbrev pub AddressExactly : Type 0
-AddressExactly = (u : Unit) (c : Cycle) → stepped u c .answer .address ≡ cond (drivesAddress u c) (driven (addressOf u c)) off
+AddressExactly = (u : Unit) (c : Cycle) → stepped u c .answer .address ≡ cond (drivesAddress u c) (driven (blockDriven u c)) off
 
 -- SUP
 

@@ -1,4 +1,4 @@
-// A trace reader: the lent trace and the number of its next record, kept together, with few thin functions over the crate `trace`.
+// A trace reader: the lent trace and the number of its next record, kept together, with few thin functions over the crate `trace_records`.
 ghost use mathlib.Core.Path.{_≡_};
 ghost use Rattle.trace_records.specs.Trace.{Shows};
 ghost use Rattle.trace_reader.specs.Reading.{startOf, Answers, Finds, movedOf};

@@ -3,6 +3,7 @@ use mathlib.Core.List.{List, [], _∷_, _++_}
 use Prim.Native.Nat.{ℕ, zero, suc, _+_, _*_}
 use lib.ListN.{getD}
 use Rattle.rules.specs.Flags.{has, with, flagIf}
+use Rattle.rules.specs.PowerOn.{faultsOf, notesOf}
 use Rattle.rules.specs.declared.Descriptor.{Descriptor}
 use Rattle.rules.specs.declared.Notes.{Notes}
 use Rattle.rules.specs.declared.Registers.{Registers}
@@ -97,12 +98,12 @@ tableIn l (suc n) = tableIn l n ++ (descriptorIn l (descriptorAt n) ∷ [])
 
 -- the notes of their byte; its other bits are not looked at
 unfoldable pub notesIn : (byte : ℕ) → Notes
-notesIn b = record { request = has b REQUEST; awaits = has b AWAIT; own = has b OWN; hold = has b HOLD }
+notesIn b = notesOf (has b REQUEST) (has b AWAIT) (has b OWN) (has b HOLD)
 
 unfoldable pub registersIn : List ℕ → Registers
 registersIn l = record {
   control = record { mr = getD l mrAt 0; sar = getD l sarAt 0; dscr = getD l dscrAt 0 };
-  faults = record { vtr = getD l vtrAt 0; vsn = getD l vsnAt 0; voff = getD l voffAt 0; bcsr = getD l bcsrAt 0 };
+  faults = faultsOf (getD l vtrAt 0) (getD l vsnAt 0) (getD l voffAt 0) (getD l bcsrAt 0);
   fetched = record { isn = getD l isnAt 0; ioff = getD l ioffAt 0 };
   notes = notesIn (getD l notesAt 0);
 }

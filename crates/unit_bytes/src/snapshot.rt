@@ -77,12 +77,12 @@ fn table_in(bytes: &[u8]) -> [Descriptor; Unit::DESCRIPTORS]
     requires { ⌜ unitSize ≤ length (now bytes) ⌝ }
     ensures { λ t. ⌜ t ≡ tableIn (now (bytes .entry)) segments ⌝ }
 {
-    let none = Descriptor {
+    let blank = Descriptor {
         base: 0,
         limit: 0,
         attributes: 0,
     };
-    let mut table = [none; Unit::DESCRIPTORS];
+    let mut table = [blank; Unit::DESCRIPTORS];
     for i in 0..Unit::DESCRIPTORS {
         table[i] = descriptor_in(bytes, TABLE + DESCRIPTOR * i);
     }

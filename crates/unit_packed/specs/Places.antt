@@ -4,6 +4,7 @@ use mathlib.Core.Bool.{Bool, true, false}
 use mathlib.Core.List.{List, [], _∷_, map}
 use mathlib.Core.Path.{_≡_}
 use Prim.Native.Nat.{ℕ}
+use Rattle.rules.specs.Seen.{answerWith}
 use Rattle.rules.specs.declared.Answer.{Answer}
 use Rattle.rules.specs.declared.Kind.{Kind}
 use Rattle.rules.specs.declared.Kind.the-variants.{Reset, Acknowledge, Command, Aborted, Translated, Passed, Ignored, Refused}
@@ -19,14 +20,7 @@ packedRow a letter number high low flags byte = record { answer = a; bytes = let
 
 -- an answer of one kind with the address lines %2326 and the data byte %57
 abbrev said : Kind → (driven sup trap drives : Bool) → Answer
-said kind driven sup trap drives = record {
-  kind = kind;
-  address = record { driven = driven; block = 0x2326 };
-  sup = sup;
-  trap = trap;
-  drives = drives;
-  byte = 0x57;
-}
+said kind driven sup trap drives = answerWith kind driven 0x2326 sup trap drives 0x57
 
 -- and of that kind alone
 abbrev kindAlone : Kind → Answer
