@@ -1,15 +1,9 @@
 // Runs a trace many times from power-on and writes the packed answers of the last run: what the benchmark times, with no text.
 use libc::STDIN_FILENO;
 use libc::STDOUT_FILENO;
-use trace_header::HEAD;
-use trace_header::MOST;
-use trace_header::RECORD;
 
 // How often. The witness is told the same number.
 const RUNS: usize = 500;
-
-// One byte more than the longest good trace, so that a longer one is refused.
-const TRACE: usize = HEAD + RECORD * MOST + 1;
 
 // The trace run that often; the answers of the last run are left.
 fn again(trace: &[u8], answers: &mut [u8]) -> u8 {
@@ -32,9 +26,15 @@ fn show(trace: &[u8], answers: &mut [u8]) {
     }
 }
 
+// Room for the answers of the longest trace. An array of this size in `main` itself would make its proof slow.
+fn room() -> [u8; run::ROOM] {
+    [0; run::ROOM]
+}
+
+// The buffer has room for more than the longest good trace, so that a longer one is refused.
 fn main() {
-    let mut trace = [0u8; TRACE];
+    let mut trace = io::large_buffer();
     let n = io::read_full(STDIN_FILENO, &mut trace);
-    let mut answers = [0u8; run::ROOM];
+    let mut answers = room();
     show(&trace[..n], &mut answers);
 }
