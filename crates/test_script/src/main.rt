@@ -1,74 +1,61 @@
 // Reads a script from standard input, and writes what a unit answers to each of its cycles, with the registers and one descriptor after it.
+// The functions here only have to be safe and to end: what they read and write is held to the stored text, and to the second model.
 ghost use Prim.Native.Nat.{_≤_};
 ghost use lib.ListN.{length};
 
 mod parse;
 mod show;
 
-use crate::parse::NUMBER;
-use crate::parse::PLACES;
 use libc::STDIN_FILENO;
 use rules::Change;
-use rules::Cycle;
 use rules::Unit;
 use rules_flags::pick;
 use unit_lent::step_by_lending;
 use unit_step::table;
 
 // A unit with the registers of a `U` line, and with the table of power-on, all zero.
-fn unit_with(said: [u8; PLACES]) -> Unit {
+fn unit_with(line: &[u8]) -> Unit {
     let u = Unit::power_on();
     let table = u.table;
-    let registers = parse::registers_in(said);
+    let registers = parse::registers_in(line);
     Unit { table, registers }
 }
 
 // The unit with the descriptor of a `D` line.
-fn with_descriptor(u: Unit, said: [u8; PLACES]) -> Unit {
-    let d = parse::descriptor_in(said);
+fn with_descriptor(u: Unit, line: &[u8]) -> Unit {
+    let d = parse::descriptor_in(line);
     let t = u.table;
     let registers = u.registers;
-    let table = table::changed(Change::Put(d), said[NUMBER], t);
+    let place = parse::number(line, parse::PLACE);
+    let table = table::changed(Change::Put(d), place, t);
     Unit { table, registers }
 }
 
-// Whose descriptor a cycle's line shows: that at SAR, as it stood, at status 3, else the segment's.
-fn shown_place(u: Unit, c: Cycle) -> u8 {
-    pick(
+// The unit after the cycle of a `C` line, stepped in place, which is shown with a descriptor: that at SAR, as it stood, at status 3, else the
+// segment's.
+fn stepped(u: Unit, line: &[u8]) -> Unit {
+    let c = parse::cycle_in(line);
+    let place = pick(
         c.status == Unit::COMMAND,
         u.registers.control.sar,
         c.segment,
-    )
-        % Unit::SEGMENTS
-}
-
-// The unit after the cycle of a `C` line, stepped in place, which is shown.
-fn stepped(u: Unit, said: [u8; PLACES]) -> Unit {
-    let c = parse::cycle_in(said);
-    let place = shown_place(u, c);
+    );
     let s = step_by_lending(u, c);
-    show::cycle(s, place);
+    show::cycle(s, place % Unit::SEGMENTS);
     s.unit
 }
 
-// The unit after a line.
-fn obeyed(u: Unit, said: [u8; PLACES]) -> Unit {
-    let letter = said[0];
-    match letter {
-        b'U' => unit_with(said),
-        b'D' => with_descriptor(u, said),
-        b'C' => stepped(u, said),
-        _ => u,
+// The unit after a line; one that asks for nothing is answered at once.
+fn obeyed(u: Unit, line: &[u8]) -> Unit {
+    match parse::kind_of(line) {
+        b'U' => unit_with(line),
+        b'D' => with_descriptor(u, line),
+        b'C' => stepped(u, line),
+        _ => {
+            show::other(line);
+            u
+        }
     }
-}
-
-// What a line says; one that asks for nothing is answered at once.
-fn told(line: &[u8]) -> [u8; PLACES] {
-    let said = parse::said(line);
-    if said[0] == 0 {
-        show::other(line);
-    }
-    said
 }
 
 // Where the line from an index on ends: at its line feed, or where the script does.
@@ -92,7 +79,7 @@ fn replay(script: &[u8]) {
     let mut from = 0;
     while from < script.len() {
         let end = line_end(script, from);
-        unit = obeyed(unit, told(&script[from..end]));
+        unit = obeyed(unit, &script[from..end]);
         from = end + 1;
     }
 }

@@ -1,14 +1,30 @@
--- `test_script::parse::fits` meets its contract: each answer follows from the test on its way and what the call ensures. Assumes nothing.
-use Rattle.test_script.specs.Said.{fitting}
+-- `test_script::parse::fits` is safe and ends: its turns are counted. Assumes nothing.
+use mathlib.Core.Path.{_≡_}
+use Prim.Native.Nat.{_≤_, _-_}
 use borrow.Author.Needs.{needs}
+use lib.ListN.{length}
 use Rattle.test_script.proofs.parse.fits.Statement.{statement}
 use Rattle.test_script.proofs.parse.fits.Tie as tie
 
+abbrev Inv-loop : tie.InvT-loop
+Inv-loop line form i₀ i-end i = (i-end ≡ length form) × (i ≤ i-end)
+
+abbrev μ-loop : tie.MeasureT-loop
+μ-loop line form i₀ i-end i = i-end - i
+
 pub fits-spec : {M : Type 1} → statement M
-unfolding fitting
 fits-spec =
     tie.close
     (tie.spec
+    Inv-loop
+    μ-loop
+    (λ c. search needs)
+    (λ c. search needs)
     (λ c κs. search needs)
-    (λ c. simp (c .before .if1 .taken, ← c .digit-of .ensures))
-    (λ c. simp (c .if1 .left)))
+    (λ c. search needs)
+    (λ c κs. search needs)
+    (λ c. search needs)
+    (λ c. search needs)
+    (λ c. search needs)
+    (λ c. search needs)
+    (λ c. search needs))
