@@ -5,7 +5,7 @@ use rules::Registers;
 use rules::Stepped;
 use rules::Unit;
 use text::fields::put_address;
-use text::numbers::put_two;
+use text::numbers::put_hex;
 use trace_header::byte_at;
 use unit_bytes::snapshot;
 
@@ -46,7 +46,7 @@ fn bytes_of(r: Registers) -> [u8; snapshot::TABLE] {
 fn registers(bytes: [u8; snapshot::TABLE]) {
     let mut line = *b" | xx xx xx xx xx xx xx xx xx xx";
     for i in 0..snapshot::TABLE {
-        put_two(&mut line, 3 + 3 * i, bytes[i]);
+        put_hex(&mut line, 3 + 3 * i, bytes[i]);
     }
     text(&line);
 }
@@ -54,10 +54,10 @@ fn registers(bytes: [u8; snapshot::TABLE]) {
 // A descriptor's number and its bytes, in the order of a `D` line.
 fn numbers(place: u8, base: u16, limit: u8, attributes: u8) {
     let mut line = *b" | xx xxxx xx xx\n";
-    put_two(&mut line, 3, place);
+    put_hex(&mut line, 3, place);
     put_address(&mut line, 6, true, (base / 256) as u8, (base % 256) as u8);
-    put_two(&mut line, 11, limit);
-    put_two(&mut line, 14, attributes);
+    put_hex(&mut line, 11, limit);
+    put_hex(&mut line, 14, attributes);
     text(&line);
 }
 

@@ -16,7 +16,7 @@ pub const SET: usize = 3_000;
 /// The captures, the first of the set, and the scripts that go through the
 /// proved programs if no other number is asked for. They tell every wrong
 /// reading that can be told; the package `wrong-readings` holds them to it.
-pub const COMPARED: usize = 150;
+pub const COMPARED: usize = 300;
 pub const SCRIPTS: u64 = 10;
 pub const CASES: usize = 100;
 
