@@ -7,23 +7,28 @@ mod parse;
 mod show;
 
 use libc::STDIN_FILENO;
+use rules::Change;
 use rules::Unit;
 use rules_flags::pick;
 use unit_lent::step_by_lending;
+use unit_step::table;
 
-// The unit of power-on, whose table is all zero, with the registers of a `U` line.
+// A unit with the registers of a `U` line, and with the table of power-on, all zero.
 fn unit_with(line: &[u8]) -> Unit {
-    let mut u = Unit::power_on();
+    let u = Unit::power_on();
+    let table = u.table;
     let registers = parse::registers_in(line);
-    u.registers = registers;
-    u
+    Unit { table, registers }
 }
 
 // The unit with the descriptor of a `D` line.
-fn with_descriptor(mut u: Unit, line: &[u8]) -> Unit {
-    let i = (parse::number(line, parse::PLACE) % Unit::SEGMENTS) as usize;
-    u.table[i] = parse::descriptor_in(line);
-    u
+fn with_descriptor(u: Unit, line: &[u8]) -> Unit {
+    let d = parse::descriptor_in(line);
+    let t = u.table;
+    let registers = u.registers;
+    let place = parse::number(line, parse::PLACE);
+    let table = table::changed(Change::Put(d), place, t);
+    Unit { table, registers }
 }
 
 // The unit after the cycle of a `C` line, stepped in place, which is shown with a descriptor: that at SAR, as it stood, at status 3, else the

@@ -4,6 +4,8 @@ use rules::Answer;
 use rules::Registers;
 use rules::Stepped;
 use rules::Unit;
+use text::fields::put_address;
+use text::numbers::put_hex;
 use trace_header::byte_at;
 use unit_bytes::snapshot;
 
@@ -40,43 +42,23 @@ fn bytes_of(r: Registers) -> [u8; snapshot::TABLE] {
     bytes
 }
 
-// The capital hexadecimal digit of a number's low four bits.
-fn digit(n: u8) -> u8 {
-    let d = n % 16;
-    if d < 10 {
-        return 48 + d;
-    }
-    55 + d
-}
-
-// A number of two digits.
-fn two(n: u8) {
-    text(&[digit(n / 16), digit(n)]);
-}
-
-// The same behind a space.
-fn number(n: u8) {
-    text(b" ");
-    two(n);
-}
-
 // These bytes, in the order of a `U` line.
 fn registers(bytes: [u8; snapshot::TABLE]) {
-    text(b" |");
+    let mut line = *b" | xx xx xx xx xx xx xx xx xx xx";
     for i in 0..snapshot::TABLE {
-        number(bytes[i]);
+        put_hex(&mut line, 3 + 3 * i, bytes[i]);
     }
+    text(&line);
 }
 
 // A descriptor's number and its bytes, in the order of a `D` line.
 fn numbers(place: u8, base: u16, limit: u8, attributes: u8) {
-    text(b" |");
-    number(place);
-    number((base / 256) as u8);
-    two((base % 256) as u8);
-    number(limit);
-    number(attributes);
-    text(b"\n");
+    let mut line = *b" | xx xxxx xx xx\n";
+    put_hex(&mut line, 3, place);
+    put_address(&mut line, 6, true, (base / 256) as u8, (base % 256) as u8);
+    put_hex(&mut line, 11, limit);
+    put_hex(&mut line, 14, attributes);
+    text(&line);
 }
 
 // The descriptor at a number modulo 64.

@@ -1,14 +1,16 @@
 -- `test_script::show::registers` is safe and ends: its turns are counted. Assumes nothing.
+use mathlib.Core.Path.{_≡_}
 use Prim.Native.Nat.{_≤_, _-_}
 use borrow.Author.Needs.{needs}
+use lib.ListN.{length}
 use Rattle.test_script.proofs.show.registers.Statement.{statement}
 use Rattle.test_script.proofs.show.registers.Tie as tie
 
 abbrev Inv-loop : tie.InvT-loop
-Inv-loop bytes i₀ i = i ≤ 10
+Inv-loop bytes line₀ i₀ line i = (i ≤ 10) × (length line ≡ 32)
 
 abbrev μ-loop : tie.MeasureT-loop
-μ-loop bytes i₀ i = 10 - i
+μ-loop bytes line₀ i₀ line i = 10 - i
 
 pub registers-spec : {M : Type 1} → statement M
 registers-spec =
@@ -17,11 +19,14 @@ registers-spec =
     Inv-loop
     μ-loop
     (λ c. search needs)
+    (λ c. search needs)
+    (λ c. search needs)
+    (λ c. search needs)
+    (λ c. search needs)
     (λ c κs. search needs)
     (λ c. search needs)
     (λ c. search needs)
+    (λ c. search needs)
+    (λ c. search needs)
     (λ c κs. search needs)
-    (λ c. search needs)
-    (λ c. search needs)
-    (λ c. search needs)
     (λ c. search needs))
