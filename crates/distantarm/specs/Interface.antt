@@ -7,6 +7,7 @@ use lib.Dec.{ltb}
 use lib.ListN.{length}
 use lib.Seq.{sets}
 use Rattle.rules.specs.PowerOn.{powerOn}
+use Rattle.rules.specs.Seen.{cycleWith}
 use Rattle.rules.specs.declared.Cycle.{Cycle}
 use Rattle.unit_bytes.specs.Snapshot.{unitSize, unitBytes}
 use Rattle.unit_bytes.specs.Cycled.{Cycled}
@@ -37,17 +38,7 @@ pub record PoweredOn (before after : List ℕ) (number : ℕ) : Type 0 where
 
 -- the cycle of the numbers that a caller hands over
 abbrev pub given : (status : ℕ) (read normal dma select : Bool) (segment offset byte : ℕ) (reset : Bool) → Cycle
-given status read normal dma select segment offset byte reset = record {
-  status = status;
-  read = read;
-  normal = normal;
-  dma = dma;
-  select = select;
-  segment = segment;
-  offset = offset;
-  byte = byte;
-  reset = reset;
-}
+given = cycleWith
 
 abbrev pub noRoom : (unit answer : List ℕ) → Bool
 noRoom unit answer = noUnit unit || noAnswer answer

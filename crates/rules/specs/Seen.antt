@@ -1,6 +1,6 @@
 -- What the rows of `Rows`, `FlagRows`, `CycleRows`, `MemoryRows` and `CodeRows` are made of. A row is a unit, the cycles before, the cycle
--- that is looked at, its whole answer and the whole unit that is left. Units and answers are written out here by their values, with nothing
--- from the rules that they are held to.
+-- that is looked at, its whole answer and the whole unit that is left. Answers and cycles are written out here by their values, with nothing
+-- from the rules that they are held to. Units are made as power-on is; the rows of commands and of later cycles tell its registers apart.
 use mathlib.Core.Bool.{Bool, true, false, _&&_}
 use mathlib.Core.List.{List, [], _∷_}
 use Prim.Native.Nat.{ℕ, zero, suc}
