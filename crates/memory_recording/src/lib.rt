@@ -45,7 +45,7 @@ pub fn first_entry(r: Registers, c: Cycle, event: u8) -> Registers
         },
         faults: Faults {
             vtr: r.faults.vtr | event,
-            vsn: c.segment % Unit::SEGMENTS,
+            vsn: c.segment % Unit::NUMBERS,
             voff: c.offset,
             bcsr: bus_status(c),
         },

@@ -51,7 +51,7 @@ pub fn noted(r: Registers, stores: bool, holds: bool, c: Cycle) -> Registers
             bcsr: r.faults.bcsr,
         },
         fetched: Fetched {
-            isn: pick(stores, c.segment % Unit::SEGMENTS, r.fetched.isn),
+            isn: pick(stores, c.segment % Unit::NUMBERS, r.fetched.isn),
             ioff: pick(stores, c.offset, r.fetched.ioff),
         },
         notes: Notes {

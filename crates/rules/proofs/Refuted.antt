@@ -53,7 +53,7 @@ wrongTurns =
     (translated 0x2341 true true) (unitIn 0x81 everyNote 0) ∷
     -- "The aborted fetch overwriting ISN": where VTR was cleared
     turned (row (unitIn 0 everyNote 0) (fetchAt 0x15) (drivesBlock kind.Aborted 0x2315 false true) (unitIn 0 requested 0))
-    (drivesBlock kind.Aborted 0x2315 false true) (fetchedAt 0xC0 0x15 requested 0) ∷
+    (drivesBlock kind.Aborted 0x2315 false true) (fetchedAt 0xC0 5 0x15 requested 0) ∷
     -- "or forgiving a second fetch too": both past the limit, the first aborted, the second a violation
     turned (rowAfter (unitIn 0x04 everyNote 0) (fetchAt 0x41 ∷ []) (fetchAt 0x41) (translated 0x2341 true true)
     (unitIn 0x84 (notesOf true true false true) 0))

@@ -1,5 +1,6 @@
 -- What a cycle is on the bus.
 use mathlib.Core.Bool.{Bool, not, _&&_, _||_}
+use Prim.Native.Nat.{ℕ, _%_}
 use lib.Dec.{eqb}
 use Rattle.rules.specs.declared.Cycle.{Cycle}
 
@@ -16,3 +17,7 @@ program c = eqb (c .status) 12 || eqb (c .status) 13
 -- "A CPU read with status %D starts an instruction"; "A write with status %D starts nothing"
 abbrev pub fetch : Cycle → Bool
 fetch c = cpu c && c .read && eqb (c .status) 13
+
+-- ticket 2: "VSN and ISN keep all seven bits", "the number that the program used"
+abbrev pub sevenBits : Cycle → ℕ
+sevenBits c = c .segment % 128

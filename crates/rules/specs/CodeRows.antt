@@ -17,7 +17,7 @@ tableWith d attributes = set (replicate 64 (segment 0 0 attributes)) 0x15 d
 
 -- what commands can change, and a value of its own in every other register
 abbrev pub unitBy : (mr sar dscr vtr : ℕ) → Notes → (table : List Descriptor) → Unit
-unitBy mr sar dscr vtr n table = unitOf table mr sar dscr (faultsOf vtr 0x2A 0x9C 0x38) 0x13 0x71 n
+unitBy mr sar dscr vtr n table = unitOf table mr sar dscr (faultsOf vtr 0x6A 0x9C 0x38) 0x53 0x71 n
 
 -- the descriptor at SAR, and the unit at a DSCR
 abbrev pub own : Descriptor
@@ -50,10 +50,10 @@ registers =
     shows 0x00 0x5A ∷
     shows 0x01 0x15 ∷
     shows 0x02 0xE5 ∷
-    shows 0x03 0x2A ∷
+    shows 0x03 0x6A ∷
     shows 0x04 0x9C ∷
     shows 0x05 0x38 ∷
-    shows 0x06 0x13 ∷
+    shows 0x06 0x53 ∷
     shows 0x07 0x71 ∷
     shows 0x20 0x01 ∷
     leaves 0x00 (unitBy 0xC7 0x15 1 0xE5 everyNote (tableWith own 0)) ∷

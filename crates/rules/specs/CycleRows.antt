@@ -21,27 +21,27 @@ numbered sar dscr vsn bcsr isn = unitHolding 0xE0 sar dscr (faultsOf 0x04 vsn 0 
 
 -- a unit at its bounds, and with segment 127 marked by a read
 abbrev pub full : Unit
-full = numbered 63 3 63 63 63
+full = numbered 63 3 127 63 127
 
 abbrev pub fullMarked : Unit
-fullMarked = unitHolding 0xE0 63 3 (faultsOf 0x04 63 0 63) 63 0 (notesOf true false false false) 63 (segment 0x2300 0xFF 0x80)
+fullMarked = unitHolding 0xE0 63 3 (faultsOf 0x04 127 0 63) 127 0 (notesOf true false false false) 63 (segment 0x2300 0xFF 0x80)
 
 -- a cycle that is ignored, at a status
 abbrev pub idle : (status : ℕ) → Cycle
 idle status = cycle false true true status 0 0
 
--- "1: status above 15 or segment above 127"; "2: SAR, VSN, ISN or BCSR above 63, or DSCR above 3"
+-- "1: status above 15 or segment above 127"; "2: SAR, [..] or BCSR above 63, or DSCR above 3"; ticket 2: "2 now bounds VSN and ISN by 127"
 abbrev pub bounds : List Row
 bounds =
     row full (idle 15) (drivesNothing kind.Ignored false true) full ∷
     row full (cycle false true true 8 127 0x15) (translated 0x2315 false true) fullMarked ∷
     refusal 1 full (idle 16) ∷
     refusal 1 full (cycle false true true 8 128 0x15) ∷
-    refusal 2 (numbered 64 3 63 63 63) (idle 15) ∷
-    refusal 2 (numbered 63 4 63 63 63) (idle 15) ∷
-    refusal 2 (numbered 63 3 64 63 63) (idle 15) ∷
-    refusal 2 (numbered 63 3 63 64 63) (idle 15) ∷
-    refusal 2 (numbered 63 3 63 63 64) (idle 15) ∷
+    refusal 2 (numbered 64 3 127 63 127) (idle 15) ∷
+    refusal 2 (numbered 63 4 127 63 127) (idle 15) ∷
+    refusal 2 (numbered 63 3 128 63 127) (idle 15) ∷
+    refusal 2 (numbered 63 3 127 64 127) (idle 15) ∷
+    refusal 2 (numbered 63 3 127 63 128) (idle 15) ∷
     []
 
 -- a selected command with a code not listed, of a segment
@@ -103,7 +103,7 @@ statuses =
 -- Reset and acknowledge, of a unit in which every register has a value of its own
 
 abbrev pub busy : (mr dscr vtr : ℕ) → Notes → Unit
-busy mr dscr vtr n = unitHolding mr 0x15 dscr (faultsOf vtr 0x2A 0x9C 0x38) 0x13 0x71 n 5 (segment 0x1234 0x56 0x68)
+busy mr dscr vtr n = unitHolding mr 0x15 dscr (faultsOf vtr 0x6A 0x9C 0x38) 0x53 0x71 n 5 (segment 0x1234 0x56 0x68)
 
 -- "1. Reset line on: VTR, DSCR and all notes cleared; MR becomes %80 if select is on, else 0. The rest stays."
 abbrev pub restarts : List Row

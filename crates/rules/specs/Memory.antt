@@ -1,10 +1,9 @@
 -- Document 01, "Fetch", "SUP", and the last paragraph of "Recording": what is decided in a memory cycle.
 use mathlib.Core.Bool.{Bool, true, false, not, cond, _&&_, _||_}
-use Prim.Native.Nat.{_%_}
 use lib.Dec.{eqb}
 use Rattle.rules.specs.Flags.{with, flagIf}
 use Rattle.rules.specs.Masks.{REF, CHG}
-use Rattle.rules.specs.Bus.{cpu, write, fetch}
+use Rattle.rules.specs.Bus.{cpu, write, fetch, sevenBits}
 use Rattle.rules.specs.Replies.{seen}
 use Rattle.rules.specs.Checks.{Findings, found}
 use Rattle.rules.specs.Recording.{eventOf, recorded}
@@ -72,16 +71,16 @@ unfoldable pub touchedBy : (sup : Bool) → Descriptor → Cycle → Change
 touchedBy true d c = change.Keep
 touchedBy false d c = change.Put (touched d c)
 
--- "A CPU read at %D translated without violation, not aborted, stores ISN (segment modulo 64) and IOFF while VTR is zero."
+-- "A CPU read at %D translated without violation, not aborted, stores ISN [..] and IOFF while VTR is zero."
 abbrev pub storing : Registers → Cycle → (violation : Bool) → Bool
 storing r c violation = fetch c && not violation && eqb (r .faults .vtr) 0
 
--- ISN and IOFF stored, and hold set, where they are
+-- ISN and IOFF stored, and hold set, where they are; ticket 2: ISN is the segment's seven bits
 unfoldable pub noted : Registers → (stores holds : Bool) → Cycle → Registers
 noted r stores holds c = record {
   control = r .control;
   faults = r .faults;
-  fetched = record { isn = cond stores (c .segment % 64) (r .fetched .isn); ioff = cond stores (c .offset) (r .fetched .ioff) };
+  fetched = record { isn = cond stores (sevenBits c) (r .fetched .isn); ioff = cond stores (c .offset) (r .fetched .ioff) };
   notes = notesOf (r .notes .request) (r .notes .awaits) (r .notes .own) (r .notes .hold || holds);
 }
 

@@ -13,14 +13,14 @@ use Rattle.rules.specs.declared.Kind.the-variants as kind
 
 -- a unit by MR, VTR, notes and the attributes of segment 5, which has base %2300 and limit %40
 abbrev pub unitAs : (mr vtr : ℕ) → Notes → (attributes : ℕ) → Unit
-unitAs mr vtr n a = unitHolding mr 0 0 (faultsOf vtr 0x2A 0x9C 0x38) 0x13 0x71 n 5 (segment 0x2300 0x40 a)
+unitAs mr vtr n a = unitHolding mr 0 0 (faultsOf vtr 0x6A 0x9C 0x38) 0x53 0x71 n 5 (segment 0x2300 0x40 a)
 
--- the same that translates; and with an instruction of segment 5 stored
+-- the same that translates; and with an instruction stored
 abbrev pub unitIn : (vtr : ℕ) → Notes → (attributes : ℕ) → Unit
 unitIn = unitAs 0xC0
 
-abbrev pub fetchedAt : (mr ioff : ℕ) → Notes → (attributes : ℕ) → Unit
-fetchedAt mr ioff n a = unitHolding mr 0 0 (faultsOf 0 0x2A 0x9C 0x38) 5 ioff n 5 (segment 0x2300 0x40 a)
+abbrev pub fetchedAt : (mr isn ioff : ℕ) → Notes → (attributes : ℕ) → Unit
+fetchedAt mr isn ioff n a = unitHolding mr 0 0 (faultsOf 0 0x6A 0x9C 0x38) isn ioff n 5 (segment 0x2300 0x40 a)
 
 -- cycles of segment 5
 abbrev pub fetchAt : (offset : ℕ) → Cycle
@@ -48,16 +48,16 @@ abortedFetches =
     []
 
 -- "Otherwise own and hold are cleared first, and the cycle goes on." "A CPU read at %D translated without violation, not aborted, stores ISN
--- (segment modulo 64) and IOFF while VTR is zero."
+-- [..] and IOFF while VTR is zero.": ticket 2, the whole segment, 69 of a unit with URS too
 abbrev pub fetches : List Row
 fetches =
-    row (unitIn 0 (notesOf true false true true) 0) (fetchAt 0x15) (translated 0x2315 false true) (fetchedAt 0xC0 0x15 requested 0x80) ∷
-    row (unitAs 0xE0 0 noNote 0) (cycle false true true 0xD 69 0x15) (translated 0x2315 false false) (fetchedAt 0xE0 0x15 noNote 0x80) ∷
+    row (unitIn 0 (notesOf true false true true) 0) (fetchAt 0x15) (translated 0x2315 false true) (fetchedAt 0xC0 5 0x15 requested 0x80) ∷
+    row (unitAs 0xE0 0 noNote 0) (cycle false true true 0xD 69 0x15) (translated 0x2315 false false) (fetchedAt 0xE0 69 0x15 noNote 0x80) ∷
     row (unitIn 0x20 (notesOf true false true true) 0) (fetchAt 0x15) (translated 0x2315 false true) (unitIn 0x20 requested 0x80) ∷
     row (unitIn 0x20 (notesOf true false true true) 0) (fetchAt 0x41) (translated 0x2341 true true)
     (unitIn 0xA0 (notesOf true true false true) 0) ∷
     row (unitIn 0 noNote 0) (fetchAt 0x41) (translated 0x2341 true true)
-    (unitHolding 0xC0 0 0 (faultsOf 0x04 5 0x41 0x3D) 0x13 0x71 everyNote 5 (segment 0x2300 0x40 0)) ∷
+    (unitHolding 0xC0 0 0 (faultsOf 0x04 5 0x41 0x3D) 0x53 0x71 everyNote 5 (segment 0x2300 0x40 0)) ∷
     row (unitAs 0x80 0 (notesOf true false true true) 0) (fetchAt 0x15) (drivesBlock kind.Passed 0x0515 false true) (unitAs 0x80 0 requested 0) ∷
     row (unitAs 0 0 (notesOf true false true true) 0) (fetchAt 0x15) (drivesNothing kind.Ignored false true) (unitAs 0 0 requested 0) ∷
     []
@@ -95,14 +95,14 @@ abbrev pub warns : (normal : Bool) → (status vtr : ℕ) → Notes → (trap : 
 warns m status vtr n trap left k =
     row (unitIn vtr n 0x20) (writeAt m status 0x40) (translated 0x2340 false trap) (unitIn left k 0xE0)
 
--- "No primary flag in VTR: its violation flags, or PWW, are added; VSN (segment modulo 64), VOFF and BCSR are stored; own is set; request and
--- await are set": own or not. (P6 and P11 have more.)
+-- "No primary flag in VTR: its violation flags, or PWW, are added; VSN [..], VOFF and BCSR are stored; own is set; request and await are
+-- set": own or not. (P6, P11 and the rows of ticket 2 have more.)
 abbrev pub firstEntries : List Row
 firstEntries =
     row (unitIn 0 noNote 0) (readAt 0x41) (translated 0x2341 true true)
-    (unitHolding 0xC0 0 0 (faultsOf 0x04 5 0x41 0x38) 0x13 0x71 everyNote 5 (segment 0x2300 0x40 0)) ∷
+    (unitHolding 0xC0 0 0 (faultsOf 0x04 5 0x41 0x38) 0x53 0x71 everyNote 5 (segment 0x2300 0x40 0)) ∷
     row (unitIn 0 warned 0) (readAt 0x41) (translated 0x2341 true true)
-    (unitHolding 0xC0 0 0 (faultsOf 0x04 5 0x41 0x38) 0x13 0x71 everyNote 5 (segment 0x2300 0x40 0)) ∷
+    (unitHolding 0xC0 0 0 (faultsOf 0x04 5 0x41 0x38) 0x53 0x71 everyNote 5 (segment 0x2300 0x40 0)) ∷
     []
 
 -- "A primary flag, and own set: flags are added, nothing else; addresses stay." "Every CPU violation also sets hold."

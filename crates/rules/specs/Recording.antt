@@ -5,6 +5,7 @@ use Prim.Native.Nat.{ℕ, _%_}
 use lib.Dec.{eqb}
 use Rattle.rules.specs.Flags.{has, lacks, with, flagIf}
 use Rattle.rules.specs.Masks.{SLV, PWW, SWW, FATL, PRIMARY, READ, NORMAL}
+use Rattle.rules.specs.Bus.{sevenBits}
 use Rattle.rules.specs.Checks.{Findings}
 use Rattle.rules.specs.PowerOn.{faultsOf, notesOf}
 use Rattle.rules.specs.Registers.{withVtr, withNotes}
@@ -26,11 +27,12 @@ eventOf dma f = eventBy dma (f .violation) (f .warning) (with (f .rights) (flagI
 unfoldable pub busStatus : Cycle → ℕ
 busStatus c = with (with (c .status % 16) (flagIf (c .read) READ)) (flagIf (c .normal) NORMAL)
 
--- "its violation flags, or PWW, are added; VSN (segment modulo 64), VOFF and BCSR are stored; own is set; request and await are set."
+-- "its violation flags, or PWW, are added; VSN [..], VOFF and BCSR are stored; own is set; request and await are set."; ticket 2: VSN is the
+-- segment's seven bits
 unfoldable pub firstEntry : Registers → Cycle → (event : ℕ) → Registers
 firstEntry r c event = record {
   control = r .control;
-  faults = faultsOf (with (r .faults .vtr) event) (c .segment % 64) (c .offset) (busStatus c);
+  faults = faultsOf (with (r .faults .vtr) event) (sevenBits c) (c .offset) (busStatus c);
   fetched = r .fetched;
   notes = notesOf true true true (r .notes .hold);
 }

@@ -11,11 +11,11 @@ use Rattle.rules.specs.declared.Registers.{Registers}
 abbrev pub orphan : (vtr : ℕ) → Bool
 orphan v = lacks v PRIMARY && (has v SWW || has v FATL)
 
--- "2: SAR, VSN, ISN or BCSR above 63, or DSCR above 3"; ticket 11: "2 gains this condition". "A unit that doesn't meet 2 is called
--- undamaged."
+-- "2: SAR, [..] or BCSR above 63, or DSCR above 3"; ticket 2: "2 now bounds VSN and ISN by 127"; ticket 11: "2 gains this condition". "A unit
+-- that doesn't meet 2 is called undamaged."
 unfoldable pub damaged : Registers → Bool
 damaged r =
-    ltb 63 (r .control .sar) || ltb 63 (r .faults .vsn) || ltb 63 (r .fetched .isn) || ltb 63 (r .faults .bcsr)
+    ltb 63 (r .control .sar) || ltb 127 (r .faults .vsn) || ltb 127 (r .fetched .isn) || ltb 63 (r .faults .bcsr)
     || ltb 3 (r .control .dscr) || orphan (r .faults .vtr)
 
 -- "1: status above 15 or segment above 127"

@@ -1,4 +1,4 @@
--- Document 01, "Proved rows", and rows of ticket 11: one table. Each row is a unit, the cycles before, the cycle that is looked at, its
+-- Document 01, "Proved rows", and rows of tickets 2 and 11: one table. Each row is a unit, the cycles before, the cycle that is looked at, its
 -- whole answer and the whole unit that is left (`Seen`).
 -- `Rows` (proofs/) shows that all of them hold of the rules.
 use mathlib.Core.Bool.{Bool, true, false}
@@ -8,6 +8,9 @@ use Rattle.rules.specs.PowerOn.{faultsOf, notesOf}
 use Rattle.rules.specs.Seen.{Row, row, rowAfter, below, noNote, warned, everyNote, unitHolding, standing}
 use Rattle.rules.specs.Seen.{segment, unitWith, translating, cycle, reads, writes, pushes, acknowledge, command, resets}
 use Rattle.rules.specs.Seen.{drivesBlock, drivesByte, drivesNothing, translated, refusal}
+use Rattle.rules.specs.declared.Cycle.{Cycle}
+use Rattle.rules.specs.declared.Faults.{Faults}
+use Rattle.rules.specs.declared.Notes.{Notes}
 use Rattle.rules.specs.declared.Unit.{Unit}
 use Rattle.rules.specs.declared.Kind.the-variants as kind
 
@@ -57,11 +60,37 @@ lengths =
     ++ below 255 (λ o. readIsSlv 0 0 (suc o))
     ++ below 255 (λ o. writePasses 0 0x20 (suc o))
 
--- "P6 unit with URS, segment 65, limit %02, attributes %01, normal data write at %93: VTR %05, BCSR %28, VSN %01, VOFF %93"
+-- a unit with URS or without, whose segment 1 has limit %02 and attributes %01, REF with them or not; what stands in its faults, ISN and IOFF
+abbrev pub halfOf : (mr : ℕ) → Faults → (isn ioff : ℕ) → Notes → (attributes : ℕ) → Unit
+halfOf mr f isn ioff n a = unitHolding mr 0 0 f isn ioff n 1 (segment 0 0x02 a)
+
+-- P6's write, and a fetch from block 2, of a segment
+abbrev pub strays : (number : ℕ) → Cycle
+strays number = cycle false false true 8 number 0x93
+
+abbrev pub fetches : (number : ℕ) → Cycle
+fetches number = cycle false true true 0xD number 0x02
+
+-- the two halves before anything, after the write, and after the fetch
+abbrev pub idleHalf : (mr : ℕ) → Unit
+idleHalf mr = halfOf mr (faultsOf 0 0 0 0) 0 0 noNote 0x01
+
+abbrev pub strayed : (mr vsn : ℕ) → Unit
+strayed mr vsn = halfOf mr (faultsOf 0x05 vsn 0x93 0x28) 0 0 everyNote 0x01
+
+abbrev pub fetched : (mr isn : ℕ) → Unit
+fetched mr isn = halfOf mr (faultsOf 0 0 0 0) isn 0x02 noNote 0x81
+
+-- "P6 unit with URS, segment 65, limit %02, attributes %01, normal data write at %93: VTR %05, BCSR %28, [..] VOFF %93"; ticket 2: "P6 becomes
+-- VSN %41." "VSN and ISN keep all seven bits": commands %03 and %06 read them, and the other half's have bit 6 clear
 abbrev pub recording : List Row
 recording =
-    row (unitWith 0xE0 1 (segment 0 0x02 0x01)) (cycle false false true 8 65 0x93) (translated 0x93 true true)
-    (unitHolding 0xE0 0 0 (faultsOf 0x05 0x01 0x93 0x28) 0 0 everyNote 1 (segment 0 0x02 0x01)) ∷
+    row (idleHalf 0xE0) (strays 65) (translated 0x93 true true) (strayed 0xE0 0x41) ∷
+    rowAfter (idleHalf 0xE0) (strays 65 ∷ []) (command true 0x03 0) (drivesByte kind.Command 0x41 true) (strayed 0xE0 0x41) ∷
+    row (idleHalf 0xC0) (strays 1) (translated 0x93 true true) (strayed 0xC0 0x01) ∷
+    row (idleHalf 0xE0) (fetches 65) (translated 0x02 false false) (fetched 0xE0 0x41) ∷
+    rowAfter (idleHalf 0xE0) (fetches 65 ∷ []) (command true 0x06 0) (drivesByte kind.Command 0x41 false) (fetched 0xE0 0x41) ∷
+    row (idleHalf 0xC0) (fetches 1) (translated 0x02 false false) (fetched 0xC0 0x01) ∷
     []
 
 -- at SAR 63 and DSCR 3, byte 3 of a descriptor is its attributes

@@ -178,7 +178,7 @@ impl Unit {
     pub const STATUSES: u8 = 16;
 
     pub const NUMBERS: u8 = 128;
-    // The largest SAR, VSN, ISN and BCSR, the largest DSCR, the largest status and segment of a cycle.
+    // The largest SAR and BCSR, the largest DSCR, the largest status and segment of a cycle. VSN and ISN keep a segment.
     pub const SIX_BITS: u8 = Unit::SEGMENTS - 1;
 
     pub const TWO_BITS: u8 = Unit::BYTES - 1;

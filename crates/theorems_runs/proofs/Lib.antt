@@ -21,6 +21,7 @@ pub mod Trap
 pub mod Notes
 pub mod Reported
 pub mod FirstFault
+pub mod Numbers
 pub mod Wider
 pub mod Descriptors
 pub mod Dma

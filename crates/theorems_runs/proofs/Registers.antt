@@ -1,4 +1,4 @@
--- What a cycle leaves of MR, SAR, DSCR and hold: one walk over every decision.
+-- What a cycle leaves of the registers and of hold, the VTR left out: one walk over every decision.
 -- Assumes nothing.
 use mathlib.Core.Path.{_≡_, refl, sym, _∙_, ap}
 use mathlib.Core.Bool.{Bool, true, false, cond, not, _&&_, _||_, and-comm, or-comm, and-false, or-false}
@@ -7,14 +7,17 @@ use lib.Dec.{eqb, leb}
 use lib.ListN.{getD}
 use borrow.Author.Tests.{eqb-true}
 use Rattle.rules.proofs.Blind.{isTranslated}
-use Rattle.rules.specs.Bus.{cpu, write, fetch}
+use Rattle.rules.specs.Bus.{cpu, write, fetch, sevenBits}
 use Rattle.rules.specs.Checks.{found}
-use Rattle.rules.specs.PowerOn.{blank}
+use Rattle.rules.specs.Flags.{has, lacks}
+use Rattle.rules.specs.Masks.{SWW, PRIMARY}
+use Rattle.rules.specs.PowerOn.{faultsOf, blank}
 use Rattle.rules.specs.Refusals.{damaged, outOfRange}
 use Rattle.rules.specs.Replies.{plain, refused}
 use Rattle.rules.specs.Status.{resetBy, quieted, acknowledged, ignored, purposeOf, byPurpose, byStatus}
-use Rattle.rules.specs.Recording.{firstEntry, added, raised, eventOf, recorded}
-use Rattle.rules.specs.Memory.{begun, noted, checked, accessed, resumed, aborted, untranslated, memoryBy, aborts, memory}
+use Rattle.rules.specs.Recording.{busStatus, firstEntry, added, raised, eventOf, rowOf, stackWarning, recorded}
+use Rattle.rules.specs.Registers.{withVtr}
+use Rattle.rules.specs.Memory.{begun, noted, storing, checked, accessed, resumed, aborted, untranslated, memoryBy, aborts, memory}
 use Rattle.rules.specs.Translation.{wayOf}
 use Rattle.rules.specs.Codes.{commandOf}
 use Rattle.rules.specs.Entry.{moved}
@@ -28,6 +31,8 @@ use Rattle.rules.specs.declared.Control.{Control}
 use Rattle.rules.specs.declared.Cycle.{Cycle}
 use Rattle.rules.specs.declared.Decision.{Decision}
 use Rattle.rules.specs.declared.Descriptor.{Descriptor}
+use Rattle.rules.specs.declared.Faults.{Faults}
+use Rattle.rules.specs.declared.Fetched.{Fetched}
 use Rattle.rules.specs.declared.Address.{Address}
 use Rattle.rules.specs.declared.Purpose.{Purpose}
 use Rattle.rules.specs.declared.Registers.{Registers}
@@ -68,81 +73,150 @@ controlBy false false true command c k = record { mr = cond (c .select) 128 0; s
 controlBy false false false true c k = commandControl (commandOf (c .offset)) (c .read) c k
 controlBy false false false false c k = k
 
-pub record Leaves (x : Decision) (k : Control) (h : Bool) : Type 0 where
+-- what stands beside the VTR after a cycle that stores it or not, from the registers before: the faults, with no VTR
+abbrev pub companions : (stores : Bool) → Cycle → Registers → Faults
+companions stores c r = cond stores (faultsOf 0 (sevenBits c) (c .offset) (busStatus c)) (withVtr r 0 .faults)
+
+-- and ISN and IOFF
+abbrev pub instruction : (stores : Bool) → Cycle → Registers → Fetched
+instruction stores c r = cond stores (record { isn = sevenBits c; ioff = c .offset }) (r .fetched)
+
+-- a decision from the registers r leaves MR, SAR and DSCR, hold, and stores beside the VTR or not (`first`), and an instruction or not (`start`)
+pub record Leaves (r : Registers) (c : Cycle) (x : Decision) (k : Control) (h first start : Bool) : Type 0 where
   pub control : x .registers .control ≡ k
   pub hold : x .registers .notes .hold ≡ h
+  pub faults : withVtr (x .registers) 0 .faults ≡ companions first c r
+  pub fetched : x .registers .fetched ≡ instruction start c r
 
-recorded-leaves : (r : Registers) (c : Cycle) (e : ℕ)
-    → (recorded r c e .control ≡ r .control) × (recorded r c e .notes .hold ≡ r .notes .hold)
+-- all but what a row records stays in it
+pub record Beside (r s : Registers) : Type 0 where
+  pub control : s .control ≡ r .control
+  pub hold : s .notes .hold ≡ r .notes .hold
+  pub fetched : s .fetched ≡ r .fetched
+
+beside : {r s : Registers} → s .control ≡ r .control → s .notes .hold ≡ r .notes .hold → s .fetched ≡ r .fetched → Beside r s
+beside k h f = record { control = k; hold = h; fetched = f }
+
+recorded-beside : (r : Registers) (c : Cycle) (e : ℕ) → Beside r (recorded r c e)
 unfolding firstEntry added raised
-recorded-leaves r c e =
-    by-row (λ s. (s .control ≡ r .control) × (s .notes .hold ≡ r .notes .hold)) r c e (refl, refl) (λ n p. (refl, refl)) (λ p. (refl, refl))
-    (λ flag p. (refl, refl))
+recorded-beside r c e =
+    by-row (Beside r) r c e (beside refl refl refl) (λ n p. beside refl refl refl) (λ p. beside refl refl refl) (λ flag p. beside refl refl refl)
+
+-- "No primary flag in VTR": the first row alone stores
+recorded-companions : (r : Registers) (c : Cycle) (e : ℕ)
+    → withVtr (recorded r c e) 0 .faults ≡ companions (not (eqb e 0) && lacks (r .faults .vtr) PRIMARY) c r
+unfolding recorded firstEntry added raised
+recorded-companions r c e =
+    go (eqb e 0) (lacks (r .faults .vtr) PRIMARY) (r .notes .own) (stackWarning c e) (has (r .faults .vtr) SWW)
+  where
+    go : (n f o s t : Bool) → withVtr (rowOf n f o s t r c e) 0 .faults ≡ companions (not n && f) c r
+    go true f o s t = refl
+    go false true o s t = refl
+    go false false true s t = refl
+    go false false false true true = refl
+    go false false false true false = refl
+    go false false false false t = refl
+
+noted-instruction : (m : Registers) (stores holds : Bool) (c : Cycle) → noted m stores holds c .fetched ≡ instruction stores c m
+unfolding noted
+noted-instruction m true holds c = refl
+noted-instruction m false holds c = refl
+
+-- a cycle that is checked has something to record
+abbrev pub eventful : Descriptor → Cycle → Bool
+eventful d c = not (eqb (eventOf (c .dma) (found d c)) 0)
 
 module _ (r : Registers) (d : Descriptor) (c : Cycle) where
-  accessed-leaves : (s : Registers) (l : Address) → Leaves (accessed s d c l) (s .control) (fails d c && cpu c || s .notes .hold)
+  accessed-leaves : (s : Registers) (l : Address)
+      → Leaves s c (accessed s d c l) (s .control) (fails d c && cpu c || s .notes .hold)
+      (eventful d c && lacks (s .faults .vtr) PRIMARY) (storing s c (fails d c))
   unfolding accessed checked noted
   accessed-leaves s l =
-      let keeps : _ = recorded-leaves s c (eventOf (c .dma) (found d c)) in
+      let e : ℕ = eventOf (c .dma) (found d c) in
+      let t : Bool = storing s c (fails d c) in
+      let m : Beside s (recorded s c e) = recorded-beside s c e in
       record {
-        control = keeps .0;
-        hold = ap (λ (h : Bool). h || (fails d c && cpu c)) (keeps .1) ∙ or-comm (s .notes .hold) (fails d c && cpu c);
+        control = m .control;
+        hold = ap (λ (h : Bool). h || (fails d c && cpu c)) (m .hold) ∙ or-comm (s .notes .hold) (fails d c && cpu c);
+        faults = recorded-companions s c e;
+        fetched =
+            noted-instruction (recorded s c e) t (fails d c && cpu c) c
+            ∙ ap (λ (f : Fetched). cond t (record { isn = sevenBits c; ioff = c .offset }) f) (m .fetched);
       }
 
   memory-leaves : (b : Bool) (w : Way) (l : Address) → (b ≡ true → fetch c ≡ true)
-      → Leaves (memoryBy b w r d c l) (r .control) (not b && isTranslated w && fails d c && cpu c || not (fetch c) && r .notes .hold)
+      → Leaves r c (memoryBy b w r d c l) (r .control) (not b && isTranslated w && fails d c && cpu c || not (fetch c) && r .notes .hold)
+      (not b && isTranslated w && (eventful d c && lacks (r .faults .vtr) PRIMARY)) (not b && isTranslated w && storing r c (fails d c))
   unfolding aborted resumed untranslated begun
-  memory-leaves true w l f = record { control = refl; hold = sym (ap (λ (t : Bool). not t && r .notes .hold) (f refl)) }
+  memory-leaves true w l f =
+      record { control = refl; hold = sym (ap (λ (t : Bool). not t && r .notes .hold) (f refl)); faults = refl; fetched = refl }
   memory-leaves false way.Translated l f =
-      let x : Leaves (accessed (begun r (fetch c)) d c l) (r .control) (fails d c && cpu c || r .notes .hold && not (fetch c)) =
-      accessed-leaves (begun r (fetch c)) l in
-      record { control = x .control; hold = x .hold ∙ ap (λ (h : Bool). fails d c && cpu c || h) (and-comm (r .notes .hold) (not (fetch c))) }
-  memory-leaves false way.Passed l f = record { control = refl; hold = and-comm (r .notes .hold) (not (fetch c)) }
-  memory-leaves false way.Silent l f = record { control = refl; hold = and-comm (r .notes .hold) (not (fetch c)) }
+      let x : _ = accessed-leaves (begun r (fetch c)) l in
+      record {
+        control = x .control;
+        hold = x .hold ∙ ap (λ (h : Bool). fails d c && cpu c || h) (and-comm (r .notes .hold) (not (fetch c)));
+        faults = x .faults;
+        fetched = x .fetched;
+      }
+  memory-leaves false way.Passed l f = record { control = refl; hold = and-comm (r .notes .hold) (not (fetch c)); faults = refl; fetched = refl }
+  memory-leaves false way.Silent l f = record { control = refl; hold = and-comm (r .notes .hold) (not (fetch c)); faults = refl; fetched = refl }
 
-  acted-leaves : (a : Action) → Leaves (acted r a) (actControl a (r .control)) (not (isSoftwareReset (Act a)) && r .notes .hold)
+  acted-leaves : (a : Action) → Leaves r c (acted r a) (actControl a (r .control)) (not (isSoftwareReset (Act a)) && r .notes .hold) false false
   unfolding acted plain restarted
-  acted-leaves SoftwareReset = record { control = refl; hold = refl }
-  acted-leaves ClearVtr = record { control = refl; hold = refl }
-  acted-leaves ClearSww = record { control = refl; hold = refl }
-  acted-leaves ClearFatl = record { control = refl; hold = refl }
-  acted-leaves SetCpui = record { control = refl; hold = refl }
-  acted-leaves SetDmai = record { control = refl; hold = refl }
+  acted-leaves SoftwareReset = record { control = refl; hold = refl; faults = refl; fetched = refl }
+  acted-leaves ClearVtr = record { control = refl; hold = refl; faults = refl; fetched = refl }
+  acted-leaves ClearSww = record { control = refl; hold = refl; faults = refl; fetched = refl }
+  acted-leaves ClearFatl = record { control = refl; hold = refl; faults = refl; fetched = refl }
+  acted-leaves SetCpui = record { control = refl; hold = refl; faults = refl; fetched = refl }
+  acted-leaves SetDmai = record { control = refl; hold = refl; faults = refl; fetched = refl }
 
   keeps-hold : (t : Bool) → r .notes .hold ≡ (not (t && false) && r .notes .hold)
   keeps-hold t = rw (and-false t)
 
   executed-leaves : (m : Command) (read : Bool)
-      → Leaves (executed m read r d c) (commandControl m read c (r .control)) (not (not read && isSoftwareReset m) && r .notes .hold)
+      → Leaves r c (executed m read r d c) (commandControl m read c (r .control)) (not (not read && isSoftwareReset m) && r .notes .hold) false false
   unfolding executed programmed replied entry refused plain
-  executed-leaves Mr read = record { control = refl; hold = keeps-hold (not read) }
-  executed-leaves Sar read = record { control = refl; hold = keeps-hold (not read) }
-  executed-leaves Dscr read = record { control = refl; hold = keeps-hold (not read) }
-  executed-leaves (Show g) true = record { control = refl; hold = refl }
-  executed-leaves (Show g) false = record { control = refl; hold = refl }
-  executed-leaves (Entry p) read = record { control = refl; hold = keeps-hold (not read) }
-  executed-leaves (Act a) true = record { control = refl; hold = refl }
+  executed-leaves Mr read = record { control = refl; hold = keeps-hold (not read); faults = refl; fetched = refl }
+  executed-leaves Sar read = record { control = refl; hold = keeps-hold (not read); faults = refl; fetched = refl }
+  executed-leaves Dscr read = record { control = refl; hold = keeps-hold (not read); faults = refl; fetched = refl }
+  executed-leaves (Show g) true = record { control = refl; hold = refl; faults = refl; fetched = refl }
+  executed-leaves (Show g) false = record { control = refl; hold = refl; faults = refl; fetched = refl }
+  executed-leaves (Entry p) read = record { control = refl; hold = keeps-hold (not read); faults = refl; fetched = refl }
+  executed-leaves (Act a) true = record { control = refl; hold = refl; faults = refl; fetched = refl }
   executed-leaves (Act a) false = acted-leaves a
-  executed-leaves Unlisted read = record { control = refl; hold = keeps-hold (not read) }
+  executed-leaves Unlisted read = record { control = refl; hold = keeps-hold (not read); faults = refl; fetched = refl }
 
   -- a CPU violation of a memory cycle
   unfoldable pub violated : Bool
   violated = not (aborts r c) && isTranslated (wayOf (r .control .mr) c) && fails d c && cpu c
 
+  -- and a memory cycle that stores VSN, VOFF and BCSR, or ISN and IOFF
+  unfoldable pub faultStored : Bool
+  faultStored = not (aborts r c) && isTranslated (wayOf (r .control .mr) c) && (eventful d c && lacks (r .faults .vtr) PRIMARY)
+
+  unfoldable pub fetchStored : Bool
+  fetchStored = not (aborts r c) && isTranslated (wayOf (r .control .mr) c) && storing r c (fails d c)
+
   purpose-leaves : (p : Purpose) (x y : Bool)
-      → Leaves (byPurpose p x y r d c) (controlBy false false false (isCommand p && y) c (r .control))
+      → Leaves r c (byPurpose p x y r d c) (controlBy false false false (isCommand p && y) c (r .control))
       (isMemory p && violated
       || not (isAcknowledge p && x || isMemory p && fetch c || isCommand p && y && write c && isSoftwareReset (commandOf (c .offset)))
       && r .notes .hold)
-  unfolding violated acknowledged quieted ignored plain commanded memory
-  purpose-leaves purpose.Acknowledge true y = record { control = refl; hold = refl }
-  purpose-leaves purpose.Acknowledge false y = record { control = refl; hold = refl }
+      (isMemory p && faultStored) (isMemory p && fetchStored)
+  unfolding violated faultStored fetchStored acknowledged quieted ignored plain commanded memory
+  purpose-leaves purpose.Acknowledge true y = record { control = refl; hold = refl; faults = refl; fetched = refl }
+  purpose-leaves purpose.Acknowledge false y = record { control = refl; hold = refl; faults = refl; fetched = refl }
   purpose-leaves purpose.Command x true = executed-leaves (commandOf (c .offset)) (c .read)
-  purpose-leaves purpose.Command x false = record { control = refl; hold = refl }
+  purpose-leaves purpose.Command x false = record { control = refl; hold = refl; faults = refl; fetched = refl }
   purpose-leaves purpose.Memory x y =
       let m : _ = memory-leaves (aborts r c) (wayOf (r .control .mr) c) _ (λ e. and-l (fetch c) _ e) in
-      record { control = m .control; hold = m .hold ∙ ap (λ (t : Bool). violated || not t && r .notes .hold) (sym (or-false (fetch c))) }
-  purpose-leaves purpose.Other x y = record { control = refl; hold = refl }
+      record {
+        control = m .control;
+        hold = m .hold ∙ ap (λ (t : Bool). violated || not t && r .notes .hold) (sym (or-false (fetch c)));
+        faults = m .faults;
+        fetched = m .fetched;
+      }
+  purpose-leaves purpose.Other x y = record { control = refl; hold = refl; faults = refl; fetched = refl }
 
   -- a fetch is a memory cycle
   fetch-memory : (isMemory (purposeOf (c .status)) && fetch c) ≡ fetch c
@@ -155,17 +229,19 @@ module _ (r : Registers) (d : Descriptor) (c : Cycle) where
       go false e = and-false (isMemory (purposeOf (c .status)))
 
   decided-leaves : (two one reset : Bool)
-      → Leaves (decidedBy two one reset r d c) (controlBy two one reset (eqb (c .status) 3 && (cpu c && c .select)) c (r .control))
+      → Leaves r c (decidedBy two one reset r d c) (controlBy two one reset (eqb (c .status) 3 && (cpu c && c .select)) c (r .control))
       (not two && not one && (not reset && (leb 8 (c .status) && leb (c .status) 13)) && violated
       || not
       (not two && not one
       && (reset || not reset && eqb (c .status) 4 && cpu c || not reset && fetch c
       || not reset && eqb (c .status) 3 && (cpu c && c .select) && write c && eqb (c .offset) 0x10))
       && r .notes .hold)
+      (not two && not one && (not reset && (leb 8 (c .status) && leb (c .status) 13)) && faultStored)
+      (not two && not one && (not reset && (leb 8 (c .status) && leb (c .status) 13)) && fetchStored)
   unfolding refused plain resetBy restarted byStatus
-  decided-leaves true one reset = record { control = refl; hold = refl }
-  decided-leaves false true reset = record { control = refl; hold = refl }
-  decided-leaves false false true = record { control = refl; hold = refl }
+  decided-leaves true one reset = record { control = refl; hold = refl; faults = refl; fetched = refl }
+  decided-leaves false true reset = record { control = refl; hold = refl; faults = refl; fetched = refl }
+  decided-leaves false false true = record { control = refl; hold = refl; faults = refl; fetched = refl }
   decided-leaves false false false =
       let x : _ = purpose-leaves (purposeOf (c .status)) (cpu c) (cpu c && c .select) in
       rw (← command-status (c .status), ← acknowledge-status (c .status), ← memory-status (c .status), ← software-reset-code (c .offset))
@@ -179,10 +255,12 @@ module _ (r : Registers) (d : Descriptor) (c : Cycle) where
             (isAcknowledge (purposeOf (c .status)) && cpu c || f
             || isCommand (purposeOf (c .status)) && (cpu c && c .select) && write c && isSoftwareReset (commandOf (c .offset)))
             && r .notes .hold) fetch-memory;
+        faults = x .faults;
+        fetched = x .fetched;
       })
 
 pub leaves : (u : Unit) (c : Cycle)
-    → Leaves (decision u c)
+    → Leaves (u .registers) c (decision u c)
     (controlBy (damaged (u .registers)) (outOfRange c) (c .reset) (eqb (c .status) 3 && (cpu c && c .select)) c (u .registers .control))
     (not (damaged (u .registers)) && not (outOfRange c) && (not (c .reset) && (leb 8 (c .status) && leb (c .status) 13))
     && violated (u .registers) (getD (u .table) (place u c) blank) c
@@ -191,5 +269,9 @@ pub leaves : (u : Unit) (c : Cycle)
     && (c .reset || not (c .reset) && eqb (c .status) 4 && cpu c || not (c .reset) && fetch c
     || not (c .reset) && eqb (c .status) 3 && (cpu c && c .select) && write c && eqb (c .offset) 0x10))
     && u .registers .notes .hold)
+    (not (damaged (u .registers)) && not (outOfRange c) && (not (c .reset) && (leb 8 (c .status) && leb (c .status) 13))
+    && faultStored (u .registers) (getD (u .table) (place u c) blank) c)
+    (not (damaged (u .registers)) && not (outOfRange c) && (not (c .reset) && (leb 8 (c .status) && leb (c .status) 13))
+    && fetchStored (u .registers) (getD (u .table) (place u c) blank) c)
 unfolding decision decided
 leaves u c = decided-leaves (u .registers) (getD (u .table) (place u c) blank) c (damaged (u .registers)) (outOfRange c) (c .reset)

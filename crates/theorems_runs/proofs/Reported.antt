@@ -50,10 +50,10 @@ use Rattle.rules.specs.declared.Way.the-variants as way
 -- The event of a CPU violation: some flag, and not PWW
 
 module _ (d : Descriptor) (c : Cycle) (cpus : c .dma ≡ false) (v : fails d c ≡ true) where
-  flags : ℕ
+  unfoldable pub flags : ℕ
   flags = with (rightsOf (d .attributes) c) (flagIf (outOfLength d c) SLV)
 
-  flags-some : eqb flags 0 ≡ false
+  pub flags-some : eqb flags 0 ≡ false
   unfolding flags
   flags-some = or-none (rightsOf (d .attributes) c) (flagIf (outOfLength d c) SLV) ∙ go (eqb (rightsOf (d .attributes) c) 0) (outOfLength d c) v
     where

@@ -36,8 +36,8 @@ sound-bounded : (r : Registers) → damaged r ≡ false → Bounded r × Rooted 
 unfolding damaged
 sound-bounded r h =
     let a : Bool = ltb 63 (r .control .sar) in
-    let b : Bool = ltb 63 (r .faults .vsn) in
-    let c : Bool = ltb 63 (r .fetched .isn) in
+    let b : Bool = ltb 127 (r .faults .vsn) in
+    let c : Bool = ltb 127 (r .fetched .isn) in
     let d : Bool = ltb 63 (r .faults .bcsr) in
     let e : Bool = ltb 3 (r .control .dscr) in
     let h₅ : (a || b || c || d || e) ≡ false = or-l (a || b || c || d || e) _ h in

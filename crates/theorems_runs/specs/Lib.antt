@@ -9,6 +9,7 @@ pub mod Hold
 pub mod Descriptors
 pub mod Reported
 pub mod FirstFault
+pub mod Numbers
 pub mod Dma
 pub mod Trap
 pub mod Notes

@@ -17,8 +17,8 @@ use Rattle.theorems_runs.specs.Sequences.{Every}
 -- the ranges of "What the unit is given, what it keeps" that 2 holds registers to
 pub record Bounded (r : Registers) : Type 0 where
   pub sar : r .control .sar ≤ 63
-  pub vsn : r .faults .vsn ≤ 63
-  pub isn : r .fetched .isn ≤ 63
+  pub vsn : r .faults .vsn ≤ 127
+  pub isn : r .fetched .isn ≤ 127
   pub bcsr : r .faults .bcsr ≤ 63
   pub dscr : r .control .dscr ≤ 3
 

@@ -17,8 +17,8 @@ pub fn damaged(r: Registers) -> bool
     ensures { λ b. ⌜ b ≡ damaged r ⌝ }
 {
     (Unit::SIX_BITS < r.control.sar)
-        | (Unit::SIX_BITS < r.faults.vsn)
-        | (Unit::SIX_BITS < r.fetched.isn)
+        | (Unit::LAST_SEGMENT < r.faults.vsn)
+        | (Unit::LAST_SEGMENT < r.fetched.isn)
         | (Unit::SIX_BITS < r.faults.bcsr)
         | (Unit::TWO_BITS < r.control.dscr)
         | orphan(r.faults.vtr)

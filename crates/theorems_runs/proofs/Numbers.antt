@@ -1,0 +1,278 @@
+-- Which cycle stores VSN, VOFF and BCSR, or ISN and IOFF, and what bit 6 of VSN and ISN tells.
+-- Assumes nothing.
+use mathlib.Core.Path.{_≡_, refl, sym, _∙_, ap}
+use mathlib.Core.Bool.{Bool, true, false, cond, not, _&&_, _||_, Bool·beq, true≢false, false≢true}
+use mathlib.Core.List.{List, [], _∷_}
+use Prim.Native.Nat.{ℕ, _%_, _≤_}
+use native.Mathlib.Omega.{arith}
+use lib.Dec.{eqb, leb, ltb}
+use lib.ListN.{getD}
+use borrow.Author.Tests.{eqb-true, ltb-false, not-true}
+use Rattle.rules.specs.Bus.{cpu, write, fetch, sevenBits}
+use Rattle.rules.specs.Checks.{rightsOf, outOfLength, warnsBy, warns}
+use Rattle.rules.specs.Codes.{commandOf}
+use Rattle.rules.specs.Commands.{replied, executed, commanded}
+use Rattle.rules.specs.Flags.{has, lacks, with, flagIf}
+use Rattle.rules.specs.Masks.{SYS, DIRW, SLV, PRIMARY, TRNS, MSEN}
+use Rattle.rules.specs.PowerOn.{blank}
+use Rattle.rules.specs.Recording.{busStatus, eventBy, eventOf}
+use Rattle.rules.specs.Refusals.{damaged, outOfRange}
+use Rattle.rules.specs.Seen.{segment, cycle, command}
+use Rattle.rules.specs.Status.{purposeOf, byStatus}
+use Rattle.rules.specs.Step.{decided, decision, after, place, stepped}
+use Rattle.rules.specs.declared.Answer.{Answer}
+use Rattle.rules.specs.declared.Cycle.{Cycle}
+use Rattle.rules.specs.declared.Descriptor.{Descriptor}
+use Rattle.rules.specs.declared.Faults.{Faults}
+use Rattle.rules.specs.declared.Fetched.{Fetched}
+use Rattle.rules.specs.declared.Unit.{Unit}
+use Rattle.theorems_runs.specs.Answers.{awaited, segmentOf, breaks, translated, violation}
+use Rattle.theorems_runs.specs.Cycles.{selectedCommand, memoryCycle, fetches, translationConditions}
+use Rattle.theorems_runs.specs.Hold.{cpuViolation}
+use Rattle.theorems_runs.specs.Numbers.{warning, storesFault, storesFetch, StoredExactly, Number, vsn, isn, upper, urs, reads}
+use Rattle.theorems_runs.specs.Numbers.{ReadShows, HalfStored, HalfReadWhere, UrsStays, HalfRead, UrsNeeded, HalvesApart}
+use Rattle.theorems_runs.specs.Refusal.{admitted}
+use Rattle.theorems_runs.specs.Sequences.{Along}
+use Rattle.theorems_runs.proofs.Answers.{fails, breaks-exactly, memory-place, where-true}
+use Rattle.theorems_runs.proofs.Computed.{computed}
+use Rattle.theorems_runs.proofs.Examples.{unitOfThree}
+use Rattle.theorems_runs.proofs.Looks.{conditions-way}
+use Rattle.theorems_runs.proofs.Registers.{companions, instruction, eventful, faultStored, fetchStored, leaves}
+use Rattle.theorems_runs.proofs.Reported.{flags, flags-some}
+use Rattle.theorems_runs.proofs.Tests.{and-l, and-r, or-r, same}
+
+-- there is something to record exactly in a CPU cycle that violates or warns
+eventful-exactly : (d : Descriptor) (c : Cycle)
+    → eventful d c ≡ (cpu c && (breaks d c || write c && has (d .attributes) DIRW && eqb (c .offset) (d .limit)))
+unfolding eventOf warns flags
+eventful-exactly d c =
+    go (c .dma) (fails d c) (c .read) (has (d .attributes) DIRW) (eqb (c .offset) (d .limit)) refl refl
+    ∙ ap (λ (t : Bool). cpu c && (t || write c && has (d .attributes) DIRW && eqb (c .offset) (d .limit))) (breaks-exactly d c)
+  where
+    go : (dma v read down edge : Bool) → c .dma ≡ dma → fails d c ≡ v
+        → not (eqb (eventBy dma v (warnsBy dma read v down edge) (with (rightsOf (d .attributes) c) (flagIf (outOfLength d c) SLV))) 0) ≡ (not dma && (v || not read && down && edge))
+    go true v read down edge p q = refl
+    go false true read down edge p q = ap not (flags-some d c p q)
+    go false false true down edge p q = refl
+    go false false false true true p q = refl
+    go false false false true false p q = refl
+    go false false false false edge p q = refl
+
+-- the two conditions of the walk, in document 01's words
+event-told : (t b p y d e l : Bool)
+    → (t && (p && (b || y && d && e) && l)) ≡ ((t && b && p || t && not b && (p && y && d && e)) && l)
+event-told false b p y d e l = refl
+event-told true true true y d e l = refl
+event-told true true false y d e l = refl
+event-told true false true y d e l = refl
+event-told true false false y d e l = refl
+
+fault-told : (a r m f w t b p y d e l : Bool)
+    → (a && (not r && m) && (not (f && w) && t && (p && (b || y && d && e) && l)))
+    ≡ ((a && (not r && m) && not (not r && f && w) && t && b && p || a && (not r && m) && not (not r && f && w) && t && not b && (p && y && d && e))
+    && l)
+fault-told false r m f w t b p y d e l = refl
+fault-told true true m f w t b p y d e l = refl
+fault-told true false false f w t b p y d e l = refl
+fault-told true false true true true t b p y d e l = refl
+fault-told true false true true false t b p y d e l = event-told t b p y d e l
+fault-told true false true false w t b p y d e l = event-told t b p y d e l
+
+fetch-told : (a r m f w t b z : Bool)
+    → (a && (not r && m) && (not (f && w) && t && (f && not b && z)))
+    ≡ (not r && f && (a && (not r && m) && not (not r && f && w) && t) && not b && z)
+fetch-told true true m f w t b z = refl
+fetch-told true false false true w t b z = refl
+fetch-told true false false false w t b z = refl
+fetch-told true false true true true t b z = refl
+fetch-told true false true true false true b z = refl
+fetch-told true false true true false false b z = refl
+fetch-told true false true false w true b z = refl
+fetch-told true false true false w false b z = refl
+fetch-told false true m f w t b z = refl
+fetch-told false false m true w t b z = refl
+fetch-told false false m false w t b z = refl
+
+module _ (u : Unit) (c : Cycle) where
+  mr : ℕ
+  mr = u .registers .control .mr
+
+  -- the descriptor at the cycle's place is its segment's
+  first-exactly : (admitted u c && memoryCycle c && faultStored (u .registers) (getD (u .table) (place u c) blank) c) ≡ storesFault u c
+  unfolding faultStored mr
+  first-exactly =
+      where-true (admitted u c && memoryCycle c) _ (faultStored (u .registers) (segmentOf u c) c)
+      (λ e. ap (λ (i : ℕ). faultStored (u .registers) (getD (u .table) i blank) c) (memory-place u c (and-r (admitted u c) _ e)))
+      ∙ rw (conditions-way mr c, eventful-exactly (segmentOf u c) c)
+      (fault-told (admitted u c) (c .reset) (leb 8 (c .status) && leb (c .status) 13) (fetch c) (u .registers .notes .awaits)
+      (translationConditions mr c) (breaks (segmentOf u c) c) (cpu c) (write c) (has (segmentOf u c .attributes) DIRW)
+      (eqb (c .offset) (segmentOf u c .limit)) (lacks (u .registers .faults .vtr) PRIMARY))
+
+  start-exactly : (admitted u c && memoryCycle c && fetchStored (u .registers) (getD (u .table) (place u c) blank) c) ≡ storesFetch u c
+  unfolding fetchStored mr
+  start-exactly =
+      where-true (admitted u c && memoryCycle c) _ (fetchStored (u .registers) (segmentOf u c) c)
+      (λ e. ap (λ (i : ℕ). fetchStored (u .registers) (getD (u .table) i blank) c) (memory-place u c (and-r (admitted u c) _ e)))
+      ∙ rw (conditions-way mr c, breaks-exactly (segmentOf u c) c)
+      (fetch-told (admitted u c) (c .reset) (leb 8 (c .status) && leb (c .status) 13) (fetch c) (u .registers .notes .awaits)
+      (translationConditions mr c) (breaks (segmentOf u c) c) (eqb (u .registers .faults .vtr) 0))
+
+  -- what stores is translated, so its segment is in range and in the unit's half
+  fault-translated : storesFault u c ≡ true → translated u c ≡ true
+  fault-translated e =
+      go (cpuViolation u c) (warning u c) refl refl (and-l (cpuViolation u c || warning u c) _ e)
+    where
+      go : (v w : Bool) → cpuViolation u c ≡ v → warning u c ≡ w → (v || w) ≡ true → translated u c ≡ true
+      go true w p q o = and-l (translated u c) _ (and-l (violation u c) _ p)
+      go false true p q o = and-l (translated u c) _ (and-l (translated u c && not (breaks (segmentOf u c) c)) _ q)
+      go false false p q o = absurd (false≢true o)
+
+  fetch-translated : storesFetch u c ≡ true → translated u c ≡ true
+  fetch-translated e =
+      and-r (fetches c) _
+      (and-l (fetches c && translated u c) _ (and-l (fetches c && translated u c && not (breaks (segmentOf u c) c)) _ e))
+
+  whole : translated u c ≡ true → sevenBits c ≡ c .segment
+  unfolding outOfRange
+  whole e =
+      let m : Bool = admitted u c && memoryCycle c in
+      let inside : outOfRange c ≡ false =
+      not-true (outOfRange c)
+      (and-r (not (damaged (u .registers))) _ (and-l (admitted u c) _ (and-l m _ (and-l (m && not (awaited u c)) _ e)))) in
+      let low : c .segment ≤ 127 = ltb-false 127 (c .segment) (or-r (ltb 15 (c .status)) _ inside) in
+      omega (arith, low)
+
+  half : translated u c ≡ true → upper (c .segment) ≡ urs u
+  half e =
+      let t : translationConditions (u .registers .control .mr) c ≡ true = and-r (admitted u c && memoryCycle c && not (awaited u c)) _ e in
+      let k : Bool = has (u .registers .control .mr) MSEN && has (u .registers .control .mr) TRNS in
+      sym (same (urs u) (upper (c .segment)) (and-r k _ (and-l (k && Bool·beq (urs u) (upper (c .segment))) _ t)))
+
+  -- a part of what is stored, where it is stored and where it is not
+  kept-part : {A : Type 0} (part : A → ℕ) (stores : Bool) (new old : A) (n : ℕ) → (stores ≡ true → part new ≡ n)
+      → part (cond stores new old) ≡ cond stores n (part old)
+  kept-part part true new old n h = h refl
+  kept-part part false new old n h = refl
+
+pub stored-exactly : StoredExactly
+unfolding after
+stored-exactly u c =
+    let first : _ = leaves u c .faults ∙ ap (λ (t : Bool). companions t c (u .registers)) (first-exactly u c) in
+    let start : _ = leaves u c .fetched ∙ ap (λ (t : Bool). instruction t c (u .registers)) (start-exactly u c) in
+    record {
+      vsn =
+          ap (λ (f : Faults). f .vsn) first
+          ∙ kept-part u c (λ (f : Faults). f .vsn) (storesFault u c) _ _ (c .segment) (λ e. whole u c (fault-translated u c e));
+      voff = ap (λ (f : Faults). f .voff) first ∙ kept-part u c (λ (f : Faults). f .voff) (storesFault u c) _ _ (c .offset) (λ e. refl);
+      bcsr = ap (λ (f : Faults). f .bcsr) first ∙ kept-part u c (λ (f : Faults). f .bcsr) (storesFault u c) _ _ (busStatus c) (λ e. refl);
+      isn =
+          ap (λ (f : Fetched). f .isn) start
+          ∙ kept-part u c (λ (f : Fetched). f .isn) (storesFetch u c) _ _ (c .segment) (λ e. whole u c (fetch-translated u c e));
+      ioff = ap (λ (f : Fetched). f .ioff) start ∙ kept-part u c (λ (f : Fetched). f .ioff) (storesFetch u c) _ _ (c .offset) (λ e. refl);
+    }
+
+-- Reads
+
+-- a read that is refused neither by 2 nor by 1 shows what its code stands for
+shown : (n : ℕ) (u : Unit) (c : Cycle) → reads n u c ≡ true
+    → decision u c .answer ≡ executed (commandOf n) true (u .registers) (getD (u .table) (place u c) blank) c .answer
+unfolding decision decided byStatus purposeOf commanded
+shown n u c e =
+    let s₃ : (admitted u c && selectedCommand c && c .read) ≡ true = and-l (admitted u c && selectedCommand c && c .read) _ e in
+    let s₂ : (admitted u c && selectedCommand c) ≡ true = and-l (admitted u c && selectedCommand c) _ s₃ in
+    let s₁ : admitted u c ≡ true = and-l (admitted u c) _ s₂ in
+    let s₀ : selectedCommand c ≡ true = and-r (admitted u c) _ s₂ in
+    let r₀ : (not (c .reset) && eqb (c .status) 3) ≡ true = and-l (not (c .reset) && eqb (c .status) 3) _ s₀ in
+    let sound : damaged (u .registers) ≡ false = not-true _ (and-l (not (damaged (u .registers))) _ s₁) in
+    let inside : outOfRange c ≡ false = not-true _ (and-r (not (damaged (u .registers))) _ s₁) in
+    let running : c .reset ≡ false = not-true _ (and-l (not (c .reset)) _ r₀) in
+    let command : c .status ≡ 3 = eqb-true _ _ (and-r (not (c .reset)) _ r₀) in
+    let selected : (cpu c && c .select) ≡ true = and-r (not (c .reset) && eqb (c .status) 3) _ s₀ in
+    let reading : c .read ≡ true = and-r (admitted u c && selectedCommand c) _ s₃ in
+    let code : c .offset ≡ n = eqb-true _ _ (and-r (admitted u c && selectedCommand c && c .read) _ e) in
+    rw (sound, inside, running, command, selected, reading, code)
+
+pub read-shows : ReadShows
+unfolding commandOf executed replied
+read-shows = (
+  λ u c e. (ap (λ (a : Answer). a .drives) (shown 0x03 u c e), ap (λ (a : Answer). a .byte) (shown 0x03 u c e)),
+  λ u c e. (ap (λ (a : Answer). a .drives) (shown 0x06 u c e), ap (λ (a : Answer). a .byte) (shown 0x06 u c e)),
+)
+
+-- The half that a number tells
+
+new : (stores : Bool) (x y : ℕ) → stores ≡ true → cond stores x y ≡ x
+new stores x y e = ap (λ (t : Bool). cond t x y) e
+
+old : (stores : Bool) (x y : ℕ) → stores ≡ false → cond stores x y ≡ y
+old stores x y e = ap (λ (t : Bool). cond t x y) e
+
+pub half-stored : HalfStored
+half-stored = (
+  λ u c e. ap upper (stored-exactly u c .vsn ∙ new _ _ _ e) ∙ half u c (fault-translated u c e),
+  λ u c e. ap upper (stored-exactly u c .isn ∙ new _ _ _ e) ∙ half u c (fetch-translated u c e),
+)
+
+-- what carries the claims about later cycles: a number stays where it is not stored, is stored with URS, and is shown
+record Lawful (n : Number) : Type 0 where
+  stays : (u : Unit) (c : Cycle) → n .stores u c ≡ false → n .kept (stepped u c .unit) ≡ n .kept u
+  halves : (u : Unit) (c : Cycle) → n .stores u c ≡ true → upper (n .kept (stepped u c .unit)) ≡ urs u
+  shows : (u : Unit) (c : Cycle) → reads (n .code) u c ≡ true → stepped u c .answer .byte ≡ n .kept u
+
+vsn-lawful : Lawful vsn
+vsn-lawful =
+    record { stays = λ u c e. stored-exactly u c .vsn ∙ old _ _ _ e; halves = half-stored .0; shows = λ u c e. read-shows .0 u c e .1 }
+
+isn-lawful : Lawful isn
+isn-lawful =
+    record { stays = λ u c e. stored-exactly u c .isn ∙ old _ _ _ e; halves = half-stored .1; shows = λ u c e. read-shows .1 u c e .1 }
+
+module _ (n : Number) (l : Lawful n) where
+  tells-on : (b : Bool) (u : Unit) (c : Cycle) → urs u ≡ b → upper (n .kept u) ≡ b → upper (n .kept (stepped u c .unit)) ≡ b
+  tells-on b u c q p = go (n .stores u c) refl
+    where
+      go : (t : Bool) → n .stores u c ≡ t → upper (n .kept (stepped u c .unit)) ≡ b
+      go true e = l .halves u c e ∙ q
+      go false e = ap upper (l .stays u c e) ∙ p
+
+  tells-along : (b : Bool) (cs : List Cycle) (v : Unit) → upper (n .kept v) ≡ b → Along (UrsStays b) v cs
+      → Along (λ v d. reads (n .code) v d ≡ true → upper (stepped v d .answer .byte) ≡ urs v) v cs
+  unfolding Along
+  tells-along b [] v p q = refl
+  tells-along b (d ∷ cs) v p q =
+      (λ e. ap upper (l .shows v d e) ∙ p ∙ sym (q .0), tells-along b cs (stepped v d .unit) (tells-on b v d (q .0) p) (q .1))
+
+  half-told : HalfReadWhere UrsStays n
+  half-told u c cs e q = tells-along (urs u) cs (stepped u c .unit) (l .halves u c e) q
+
+  half-apart : (u v : Unit) (c d : Cycle) → urs u ≡ not (urs v) → n .stores u c ≡ true → n .stores v d ≡ true
+      → n .kept (stepped u c .unit) ≡ n .kept (stepped v d .unit) → ⊥
+  half-apart u v c d t e f q = no-other (urs v) (sym (l .halves v d f) ∙ sym (ap upper q) ∙ l .halves u c e ∙ t)
+    where
+      no-other : (t : Bool) → t ≡ not t → ⊥
+      no-other true e = true≢false e
+      no-other false e = false≢true e
+
+pub half-read : HalfRead
+half-read = (half-told vsn vsn-lawful, half-told isn isn-lawful)
+
+pub halves-apart : HalvesApart
+halves-apart = (half-apart vsn vsn-lawful, half-apart isn isn-lawful)
+
+-- URS, and segment 1 open to system mode alone, or to all
+upperUnit : (attributes : ℕ) → Unit
+upperUnit attributes = unitOfThree 0xE0 0 0 false blank (segment 0 0xFF attributes) blank
+
+-- a normal write at segment 65 stores VSN %41, a fetch there ISN %41; MR is written without URS, and the number is read
+pub urs-needed : UrsNeeded
+unfolding upperUnit computed Along
+urs-needed = (
+  λ claim.
+      true≢false
+      (claim (upperUnit SYS) (cycle false false true 8 65 0) (command false 0x00 0xC0 ∷ command true 0x03 0 ∷ []) refl
+      (refl, (refl, refl)) .1 .0 refl),
+  λ claim.
+      true≢false
+      (claim (upperUnit 0) (cycle false true true 0xD 65 0) (command false 0x00 0xC0 ∷ command true 0x06 0 ∷ []) refl
+      (refl, (refl, refl)) .1 .0 refl),
+)
