@@ -62,6 +62,9 @@ static const struct row {
     {{3, 0, 0x00, 0x80, false, false, false}, DISTANTARM_COMMAND, DISTANTARM_MR, 0x80},
     {{8, 7, 0x02, 0, true, false, false}, DISTANTARM_PASSED, DISTANTARM_VTR, 0x20},
     {{0, 0, 0, 0, true, false, true}, DISTANTARM_RESET, DISTANTARM_VTR, 0},
+    {{3, 0, 0x00, 0xE5, false, false, false}, DISTANTARM_COMMAND, DISTANTARM_MR, 0xE5},
+    {{13, 71, 0x03, 0, true, false, false}, DISTANTARM_TRANSLATED, DISTANTARM_ISN, 71},
+    {{8, 71, 0x01, 0, false, false, false}, DISTANTARM_TRANSLATED, DISTANTARM_VSN, 71},
 };
 
 static void layout(void)
@@ -89,9 +92,9 @@ static void fill(uint8_t *bytes, size_t length)
     if (length >= UNIT) {
         bytes[DISTANTARM_SAR] = 63;
         bytes[DISTANTARM_DSCR] = 3;
-        bytes[DISTANTARM_VSN] = 63;
+        bytes[DISTANTARM_VSN] = 127;
         bytes[DISTANTARM_BCSR] = 63;
-        bytes[DISTANTARM_ISN] = 63;
+        bytes[DISTANTARM_ISN] = 127;
         bytes[DISTANTARM_NOTES] = 0;
     }
 }
@@ -143,11 +146,11 @@ static void power_on(void)
     expect(memcmp(unit + UNIT, was + UNIT, PAST) == 0, "power-on leaves what is past the unit");
 }
 
-/* Refusal 2, before 1, for each register that has a bound, and for notes above 15. */
+/* Refusal 2, before 1, for exactly the values past a register's bound, and for notes above 15. */
 static void damaged_units(void)
 {
     static const struct { int at, least; } bounds[] = {
-        {DISTANTARM_SAR, 64}, {DISTANTARM_VSN, 64}, {DISTANTARM_ISN, 64}, {DISTANTARM_BCSR, 64}, {DISTANTARM_DSCR, 4}, {DISTANTARM_NOTES, 16},
+        {DISTANTARM_SAR, 64}, {DISTANTARM_VSN, 128}, {DISTANTARM_ISN, 128}, {DISTANTARM_BCSR, 64}, {DISTANTARM_DSCR, 4}, {DISTANTARM_NOTES, 16},
     };
     uint8_t unit[UNIT + PAST];
     size_t i;
@@ -155,10 +158,14 @@ static void damaged_units(void)
 
     for (i = 0; i < sizeof bounds / sizeof bounds[0]; i++)
         for (request = 0; request < 2; request++)
-            for (value = bounds[i].least; value < 256; value++) {
+            for (value = 0; value < 256; value++) {
                 fill(unit, sizeof unit);
                 unit[DISTANTARM_NOTES] = (uint8_t)request;
                 unit[bounds[i].at] = (uint8_t)value;
+                if (value < bounds[i].least) {
+                    refuses(DISTANTARM_OUT_OF_RANGE, unit, outside, "a unit within its bounds, and a cycle out of range");
+                    continue;
+                }
                 refuses(DISTANTARM_DAMAGED, unit, plain, "a damaged unit");
                 refuses(DISTANTARM_DAMAGED, unit, outside, "a damaged unit, and a cycle out of range");
             }

@@ -94,9 +94,9 @@ uint8_t distantarm_power_on(uint8_t *unit, size_t unit_length);
  *   byte      the data byte      reset               the reset line
  *
  * It gives 0, or the number of the refusal, 1 to 4, as the answer has it too; a refusal drives nothing, shows the trap line as it was
- * and leaves every byte of the unit. Refusal 2, a damaged unit, is given for a notes byte above 15 as well as for SAR, VSN, ISN or BCSR
- * above 63, DSCR above 3, or a VTR with SWW or FATL and no primary flag. Where a buffer is too short it gives 255, and both are left as
- * they were. */
+ * and leaves every byte of the unit. Refusal 2, a damaged unit, is given for a notes byte above 15 as well as for SAR or BCSR above 63,
+ * VSN or ISN above 127, DSCR above 3, or a VTR with SWW or FATL and no primary flag. Where a buffer is too short it gives 255, and both
+ * are left as they were. */
 uint8_t distantarm_cycle(uint8_t *unit, size_t unit_length, uint8_t *answer, size_t answer_length, uint8_t status, bool read, bool normal,
                          bool dma, bool select, uint8_t segment, uint8_t offset, uint8_t byte, bool reset);
 

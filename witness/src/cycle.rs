@@ -1,5 +1,8 @@
 //! What a unit is given in one cycle, and what it answers.
 
+/// A segment number has seven bits.
+pub const LAST_SEGMENT: u8 = 127;
+
 /// One cycle. Status and segment are bytes here, so a caller can give numbers
 /// that the bus cannot carry; refusal 1 answers those.
 #[derive(Clone, Copy, Debug, Default, PartialEq, Eq)]
@@ -26,7 +29,7 @@ impl Cycle {
         self.status & 0x0F | u8::from(self.read) << 4 | u8::from(self.normal) << 5
     }
 
-    /// The descriptor's number, which is also what VSN and ISN keep.
+    /// The descriptor's number. VSN and ISN keep the whole segment (ticket 2).
     pub fn entry(&self) -> u8 {
         self.segment % 64
     }

@@ -69,7 +69,7 @@ pub trait Memory: Translation + Checks + Recording {
             Self::mark(unit, cycle);
         }
         if Self::keeps_instruction(unit, cycle, finding) {
-            unit.isn = cycle.entry();
+            unit.isn = Self::kept_segment(cycle);
             unit.ioff = cycle.offset;
         }
         Answer {

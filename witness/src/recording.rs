@@ -30,11 +30,17 @@ pub trait Recording {
     /// No primary flag yet.
     fn first_entry(unit: &mut Unit, cycle: &Cycle, flags: u8) {
         unit.vtr |= flags;
-        unit.vsn = cycle.entry();
+        unit.vsn = Self::kept_segment(cycle);
         unit.voff = cycle.offset;
         unit.bcsr = cycle.bus_status();
         unit.own = true;
         Self::trap(unit);
+    }
+
+    /// What VSN and ISN keep: all seven bits (ticket 2), where document 01 has
+    /// the segment modulo 64.
+    fn kept_segment(cycle: &Cycle) -> u8 {
+        cycle.segment
     }
 
     /// The instruction that made the first entry: flags, nothing else.

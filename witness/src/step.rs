@@ -2,7 +2,7 @@
 //! reset and acknowledge.
 
 use crate::commands::Commands;
-use crate::cycle::{Answer, Cycle, Kind};
+use crate::cycle::{Answer, Cycle, Kind, LAST_SEGMENT};
 use crate::memory::Memory;
 use crate::unit::{mode, violation, Unit};
 
@@ -58,9 +58,12 @@ pub trait Step: Commands + Memory {
         }
     }
 
+    /// VSN and ISN may be any segment (ticket 2); document 01 bounds these two
+    /// by 63 as well.
     fn damaged(unit: &Unit) -> bool {
-        let above = unit.sar > 63 || unit.vsn > 63 || unit.isn > 63 || unit.bcsr > 63;
-        above || unit.dscr > 3 || Self::orphan(unit)
+        let above = unit.sar > 63 || unit.bcsr > 63 || unit.dscr > 3;
+        let segments = unit.vsn > LAST_SEGMENT || unit.isn > LAST_SEGMENT;
+        above || segments || Self::orphan(unit)
     }
 
     /// SWW or FATL or both standing without a primary flag (ticket 11). No run
@@ -70,7 +73,7 @@ pub trait Step: Commands + Memory {
     }
 
     fn out_of_range(cycle: &Cycle) -> bool {
-        cycle.status > 15 || cycle.segment > 127
+        cycle.status > 15 || cycle.segment > LAST_SEGMENT
     }
 
     fn class(cycle: &Cycle) -> Class {

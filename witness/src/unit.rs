@@ -57,6 +57,7 @@ pub struct Unit {
     pub sar: u8,
     pub dscr: u8,
     pub vtr: u8,
+    /// A whole segment number, and so is ISN (ticket 2).
     pub vsn: u8,
     pub voff: u8,
     pub bcsr: u8,

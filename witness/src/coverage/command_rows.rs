@@ -24,6 +24,7 @@ pub fn rows() -> Vec<Row> {
     rows.extend(descriptor_commands());
     rows.extend(registers());
     rows.extend(clears());
+    rows.extend(kept_segments());
     rows
 }
 
@@ -126,4 +127,25 @@ fn clears() -> Vec<Row> {
             obeyed(e, code::CLEAR_FATL) && e.after.vtr & violation::PRIMARY != 0
         }),
     ]
+}
+
+/// Bit 6 of VSN and ISN (ticket 2), as URS has it and as an earlier MR had it.
+/// A 0 may be that of power-on and does not count.
+fn kept_segments() -> Vec<Row> {
+    let shows = |e: &Event, code: u8, upper: bool| {
+        let shown = e.answer.data.filter(|&data| data != 0);
+        obeyed(e, code) && shown.is_some_and(|data| (data & 0x40 != 0) == upper)
+    };
+    let mut rows = Vec::new();
+    for code in [code::VSN, code::ISN] {
+        for (upper, bit, range) in [(true, "set", "clear"), (false, "clear", "set")] {
+            let name = format!("command %{code:02X} shows bit 6 {bit}");
+            let unlike = format!("{name}, URS is {range}");
+            rows.push(Row::record(name, move |e| shows(e, code, upper)));
+            rows.push(Row::record(unlike, move |e| {
+                shows(e, code, upper) && e.before.mode(mode::URS) != upper
+            }));
+        }
+    }
+    rows
 }

@@ -22,6 +22,7 @@ pub fn rows() -> Vec<Row> {
         attribute_passes(),
         suppression(),
         marks(),
+        instruction_address(),
     ];
     subjects.into_iter().flatten().collect()
 }
@@ -279,8 +280,20 @@ fn marks() -> Vec<Row> {
         Row::record("REF not set under hold", |e| {
             e.held && e.finding.is_some() && !e.violation() && !e.descriptor().has(attribute::REF)
         }),
-        Row::record("ISN and IOFF stored", |e| {
-            e.fetch && e.clean() && e.before.vtr == 0
+    ]
+}
+
+fn instruction_address() -> Vec<Row> {
+    let stored = |e: &Event| e.fetch && e.clean() && e.before.vtr == 0;
+    vec![
+        Row::record("ISN and IOFF stored, bit 6 set", move |e| {
+            stored(e) && e.after.isn >= 64
+        }),
+        Row::record("ISN and IOFF stored, bit 6 clear", move |e| {
+            stored(e) && e.after.isn < 64
+        }),
+        Row::record("ISN and IOFF stored, bit 6 clear that was set", move |e| {
+            stored(e) && e.after.isn < 64 && e.before.isn >= 64
         }),
         Row::record("ISN and IOFF kept, VTR stands", |e| {
             e.fetch && e.clean() && e.before.vtr != 0

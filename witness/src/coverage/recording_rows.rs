@@ -42,6 +42,15 @@ fn first() -> Vec<Row> {
         Row::record("first: hold stands, VTR cleared", move |e| {
             first(e) && e.held
         }),
+        Row::record("first: VSN stored, bit 6 set", move |e| {
+            first(e) && e.after.vsn >= 64
+        }),
+        Row::record("first: VSN stored, bit 6 clear", move |e| {
+            first(e) && e.after.vsn < 64
+        }),
+        Row::record("first: VSN stored, bit 6 clear that was set", move |e| {
+            first(e) && e.after.vsn < 64 && e.before.vsn >= 64
+        }),
     ]
 }
 

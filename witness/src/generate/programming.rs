@@ -11,9 +11,7 @@ use super::bus::{violates, Bus};
 pub fn setup(bus: &mut Bus) {
     let upper = bus.random.once_in(3);
     let many = bus.random.between(3, 6);
-    bus.segments = (0..many)
-        .map(|_| bus.random.byte() % 64 + if upper { 64 } else { 0 })
-        .collect();
+    bus.segments = (0..many).map(|_| segment(bus, upper)).collect();
     let mode_first = bus.random.coin();
     if mode_first {
         set_mode(bus, upper);
@@ -25,6 +23,16 @@ pub fn setup(bus: &mut Bus) {
     if !mode_first || bus.random.coin() {
         set_mode(bus, upper);
     }
+}
+
+/// Any segment of a range, now and then its first or its last.
+fn segment(bus: &mut Bus, upper: bool) -> u8 {
+    let number = match bus.random.below(12) {
+        0 => 0,
+        1 => 63,
+        _ => bus.random.byte() % 64,
+    };
+    number + if upper { 64 } else { 0 }
 }
 
 fn set_mode(bus: &mut Bus, upper: bool) {

@@ -173,8 +173,10 @@ pub fn without_translation(bus: &mut Bus) {
     if bus.random.once_in(4) {
         bus.acknowledge();
     }
-    if bus.random.once_in(8) {
-        bus.read(code::MR);
+    if bus.random.once_in(3) {
+        // VSN and ISN keep the range that stood when they were stored.
+        let register = bus.random.pick(&[code::MR, code::VSN, code::ISN]);
+        bus.read(register);
     }
     bus.write(code::MR, mr);
 }

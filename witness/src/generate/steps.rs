@@ -3,7 +3,7 @@
 use std::fmt::Write;
 
 use crate::commands::code;
-use crate::cycle::Cycle;
+use crate::cycle::{Cycle, LAST_SEGMENT};
 use crate::script::Registers;
 use crate::unit::{attribute, mode, violation, Descriptor, Unit};
 
@@ -123,10 +123,10 @@ fn sane(bus: &mut Bus) -> Unit {
         sar: random.byte() % 64,
         dscr: random.byte() % 4,
         vtr: if empty { 0 } else { vtr(random) },
-        vsn: random.byte() % 64,
+        vsn: segment(random),
         voff: random.byte(),
         bcsr: random.byte() % 64,
-        isn: random.byte() % 64,
+        isn: segment(random),
         ioff: random.byte(),
         request,
         awaits,
@@ -142,6 +142,13 @@ fn vtr(random: &mut Random) -> u8 {
         vtr if vtr & violation::PRIMARY == 0 => 0,
         vtr => vtr,
     }
+}
+
+/// What VSN and ISN may hold, of either range and often at its edges: neither
+/// need be of the unit's own range, since MR may have been written since.
+fn segment(random: &mut Random) -> u8 {
+    let any = random.byte() & LAST_SEGMENT;
+    random.pick(&[any, any, any, 0, 63, 64, LAST_SEGMENT])
 }
 
 /// Any undamaged unit.
@@ -160,10 +167,10 @@ pub fn undamaged(random: &mut Random) -> Unit {
         sar: random.byte() % 64,
         dscr: random.byte() % 4,
         vtr: vtr(random),
-        vsn: random.byte() % 64,
+        vsn: segment(random),
         voff: random.byte(),
         bcsr: random.byte() % 64,
-        isn: random.byte() % 64,
+        isn: segment(random),
         ioff: random.byte(),
         request: random.coin(),
         awaits: random.coin(),
@@ -189,10 +196,11 @@ fn orphan(bus: &mut Bus) -> Unit {
 fn damaged(bus: &mut Bus) -> Unit {
     let mut unit = sane(bus);
     let number = bus.random.pick(&[64, 64, 65, 127, 128, 0xFF]);
+    let segment = bus.random.pick(&[128, 128, 129, 0xC0, 0xFF]);
     match bus.random.below(5) {
         0 => unit.sar = number,
-        1 => unit.vsn = number,
-        2 => unit.isn = number,
+        1 => unit.vsn = segment,
+        2 => unit.isn = segment,
         3 => unit.bcsr = number,
         _ => unit.dscr = bus.random.pick(&[4, 4, 5, 0x80, 0xFF]),
     }
@@ -201,17 +209,17 @@ fn damaged(bus: &mut Bus) -> Unit {
 
 /// Any bytes at all, now and then within bounds.
 fn any(bus: &mut Bus) -> Unit {
-    let bound = bus.random.pick(&[64, 64, 128]);
+    let (number, segment) = bus.random.pick(&[(0x3F, 0x7F), (0x3F, 0x7F), (0x7F, 0xFF)]);
     let random = &mut bus.random;
     Unit {
         mr: random.byte(),
-        sar: random.byte() % bound,
+        sar: random.byte() & number,
         dscr: random.byte() % 5,
         vtr: random.byte(),
-        vsn: random.byte() % bound,
+        vsn: random.byte() & segment,
         voff: random.byte(),
-        bcsr: random.byte() % bound,
-        isn: random.byte() % bound,
+        bcsr: random.byte() & number,
+        isn: random.byte() & segment,
         ioff: random.byte(),
         request: random.coin(),
         awaits: random.coin(),

@@ -7,3 +7,4 @@ mod refusals;
 mod rows;
 mod sample;
 mod script;
+mod segments;

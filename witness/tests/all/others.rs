@@ -2,7 +2,9 @@
 //! but descriptors outside a set. Cycles that keep the ticket's conditions show
 //! no difference; where one condition is broken and no other, some cycle does.
 
-use witness::commands::code::{BASE, CLEAR_VTR, MR, RESET, SET_CPUI, SET_DMAI, WHOLE_STEPPING};
+use witness::commands::code::{
+    BASE, CLEAR_VTR, MR, RESET, SET_CPUI, SET_DMAI, VTR, WHOLE_STEPPING,
+};
 use witness::cycle::{Answer, Cycle, Kind};
 use witness::generate::random::Random;
 use witness::generate::steps::undamaged;
@@ -34,16 +36,16 @@ fn takes_descriptor(cycle: &Cycle) -> bool {
 }
 
 /// Two units, and a set of descriptor numbers.
-struct Pair {
+pub struct Pair {
     inside: Vec<u8>,
-    units: [Unit; 2],
+    pub units: [Unit; 2],
 }
 
 /// One cycle in both units, with the first as it was before.
-struct Turn {
-    before: Unit,
-    cycle: Cycle,
-    answers: [Answer; 2],
+pub struct Turn {
+    pub before: Unit,
+    pub cycle: Cycle,
+    pub answers: [Answer; 2],
 }
 
 impl Pair {
@@ -173,18 +175,19 @@ fn small(random: &mut Random) -> u8 {
     random.byte() & random.pick(&[0x01, 0x01, 0xFF])
 }
 
-/// Any code. MR often, since a reset leaves no unit translating, and clear
-/// VTR, since some things are recorded only after it.
+/// Any code. MR often, since a reset leaves no unit translating, clear VTR,
+/// since some things are recorded only after it, and registers that show them.
 fn code(random: &mut Random) -> u8 {
-    match random.below(8) {
+    match random.below(9) {
         0 | 1 => MR,
         2 | 3 => CLEAR_VTR,
         4 => random.byte(),
+        5 => VTR + random.byte() % 6,
         _ => random.byte() % 0x24,
     }
 }
 
-type Wanted = (&'static str, fn(&Pair, &Turn) -> bool);
+pub type Wanted = (&'static str, fn(&Pair, &Turn) -> bool);
 
 /// What runs must meet often, or they would say nothing. A pair is as it stands
 /// after the cycle.
@@ -244,11 +247,11 @@ const DESCRIPTOR_BYTES: &[Wanted] = &[
     }),
 ];
 
-fn is(turn: &Turn, kind: Kind) -> bool {
+pub fn is(turn: &Turn, kind: Kind) -> bool {
     turn.answers[0].kind == kind
 }
 
-fn obeys(turn: &Turn, code: u8) -> bool {
+pub fn obeys(turn: &Turn, code: u8) -> bool {
     is(turn, Kind::Command) && turn.cycle.offset == code
 }
 
@@ -256,18 +259,27 @@ fn sets(pair: &Pair, turn: &Turn, flag: u8) -> bool {
     pair.units[0].vtr & !turn.before.vtr & flag != 0
 }
 
-/// No cycle that the rule allows shows a difference, and what is wanted comes
-/// some hundred times.
+/// No cycle that the rule allows shows a difference.
 fn nothing_shows(rule: fn(&Pair, &Cycle) -> bool, wanted: &[Wanted]) {
+    let law = |pair: &Pair, turn: &Turn| turn.answers[0] == turn.answers[1] && pair.alike();
+    every_turn(rule, law, wanted);
+}
+
+/// Every cycle that the rule allows keeps the law, and what is wanted comes
+/// some hundred times.
+pub fn every_turn(
+    rule: fn(&Pair, &Cycle) -> bool,
+    law: fn(&Pair, &Turn) -> bool,
+    wanted: &[Wanted],
+) {
     let mut random = Random::new(12, 0);
     let mut counts = vec![0; wanted.len()];
     for number in 0..PAIRS {
         let mut pair = Pair::new(&mut random);
         for _ in 0..CYCLES {
             let turn = pair.turn(&mut random, &rule);
-            let [answer, twin] = turn.answers;
-            assert_eq!(answer, twin, "pair {number}: {:?}", turn.cycle);
-            assert!(pair.alike(), "pair {number}: {:?}", turn.cycle);
+            let Turn { cycle, answers, .. } = turn;
+            assert!(law(&pair, &turn), "pair {number}: {cycle:?}, {answers:?}");
             for (count, (_, meets)) in counts.iter_mut().zip(wanted) {
                 *count += usize::from(meets(&pair, &turn));
             }

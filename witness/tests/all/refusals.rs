@@ -19,7 +19,7 @@ fn refused(number: u8, unit: &Unit, cycle: Cycle) {
     }
 }
 
-fn command(code: u8, read: bool) -> Cycle {
+pub fn command(code: u8, read: bool) -> Cycle {
     Cycle {
         status: 0x3,
         read,
@@ -33,7 +33,7 @@ fn command(code: u8, read: bool) -> Cycle {
 fn damaged() -> Vec<Unit> {
     let damage: [fn(&mut Unit); 8] = [
         |unit| unit.sar = 64,
-        |unit| unit.vsn = 64,
+        |unit| unit.vsn = 128,
         |unit| unit.isn = 0xFF,
         |unit| unit.bcsr = 64,
         |unit| unit.dscr = 4,
@@ -87,6 +87,32 @@ fn damage_is_2_and_comes_first() {
         }
         refused(2, &unit, command(0x12, true));
         refused(2, &unit, command(0x02, false));
+    }
+}
+
+type Register = fn(&mut Unit) -> &mut u8;
+
+/// VSN and ISN by ticket 2, the others by document 01.
+#[test]
+fn each_register_is_damaged_exactly_above_its_bound() {
+    let bounds: [(Register, u8); 5] = [
+        (|unit| &mut unit.sar, 63),
+        (|unit| &mut unit.vsn, 127),
+        (|unit| &mut unit.isn, 127),
+        (|unit| &mut unit.bcsr, 63),
+        (|unit| &mut unit.dscr, 3),
+    ];
+    for (register, bound) in bounds {
+        for value in 0..=0xFF {
+            let mut unit = Unit::power_on();
+            *register(&mut unit) = value;
+            if value > bound {
+                refused(2, &unit, Cycle::default());
+            } else {
+                let answer = Document01::step(&mut unit, &Cycle::default());
+                assert_eq!(answer, Answer::quiet(Kind::Ignored, false), "{unit:?}");
+            }
+        }
     }
 }
 

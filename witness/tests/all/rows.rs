@@ -6,9 +6,9 @@ use witness::unit::{attribute, violation, Descriptor, Unit};
 use witness::Document01;
 
 /// Translating, lower range, one table.
-const TRANSLATES: u8 = 0xC0;
+pub const TRANSLATES: u8 = 0xC0;
 
-fn unit(mr: u8, number: usize, descriptor: (u16, u8, u8)) -> Unit {
+pub fn unit(mr: u8, number: usize, descriptor: (u16, u8, u8)) -> Unit {
     let mut unit = Unit::power_on();
     unit.mr = mr;
     let (base, limit, attributes) = descriptor;
@@ -20,7 +20,7 @@ fn unit(mr: u8, number: usize, descriptor: (u16, u8, u8)) -> Unit {
     unit
 }
 
-fn read(segment: u8, offset: u8) -> Cycle {
+pub fn read(segment: u8, offset: u8) -> Cycle {
     Cycle {
         status: 0x8,
         read: true,
@@ -30,14 +30,22 @@ fn read(segment: u8, offset: u8) -> Cycle {
     }
 }
 
-fn write(segment: u8, offset: u8) -> Cycle {
+pub fn write(segment: u8, offset: u8) -> Cycle {
     Cycle {
         read: false,
         ..read(segment, offset)
     }
 }
 
-fn step(unit: &mut Unit, cycle: Cycle) -> Answer {
+pub fn acknowledge() -> Cycle {
+    Cycle {
+        status: 0x4,
+        read: true,
+        ..Cycle::default()
+    }
+}
+
+pub fn step(unit: &mut Unit, cycle: Cycle) -> Answer {
     Document01::step(unit, &cycle)
 }
 
@@ -91,6 +99,7 @@ fn p5_limit_zero() {
     }
 }
 
+/// VSN by ticket 2; document 01 has %01.
 #[test]
 fn p6_what_a_violation_stores() {
     let mut unit = unit(0xE0, 1, (0, 0x02, attribute::RD));
@@ -102,7 +111,7 @@ fn p6_what_a_violation_stores() {
     assert!(answer.sup && answer.trap);
     assert_eq!(
         (unit.vtr, unit.bcsr, unit.vsn, unit.voff),
-        (0x05, 0x28, 0x01, 0x93)
+        (0x05, 0x28, 0x41, 0x93)
     );
 }
 
@@ -110,12 +119,7 @@ fn p6_what_a_violation_stores() {
 fn p7_acknowledge_drives_the_units_line() {
     let mut unit = unit(0x82, 0, (0, 0, 0));
     unit.request = true;
-    let cycle = Cycle {
-        status: 0x4,
-        read: true,
-        ..Cycle::default()
-    };
-    let answer = step(&mut unit, cycle);
+    let answer = step(&mut unit, acknowledge());
     assert_eq!((answer.kind, answer.data), (Kind::Acknowledge, Some(0x04)));
     assert!(!answer.trap);
 }
@@ -165,17 +169,12 @@ fn p11_system_stack_warnings() {
         status: 0x9,
         ..write(0, 0xF0)
     };
-    let acknowledge = Cycle {
-        status: 0x4,
-        read: true,
-        ..Cycle::default()
-    };
     step(&mut unit, warning);
     assert_eq!(unit.vtr, violation::PWW);
-    step(&mut unit, acknowledge);
+    step(&mut unit, acknowledge());
     assert!(step(&mut unit, warning).trap);
     assert_eq!(unit.vtr, 0x60);
-    step(&mut unit, acknowledge);
+    step(&mut unit, acknowledge());
     assert!(!step(&mut unit, warning).trap);
     assert_eq!(unit.vtr, 0x60);
     assert!(!unit.request && !unit.awaits);

@@ -53,6 +53,10 @@ const RULES: &[(&str, &str)] = &[
     ("Checks::dma_inhibited", "DMAI"),
     ("Recording::record", "which row records, and hold"),
     ("Recording::first_entry", "no primary flag: the first entry"),
+    (
+        "Recording::kept_segment",
+        "which bits of the segment VSN and ISN keep",
+    ),
     ("Recording::further_entry", "a primary flag, and own set"),
     ("Recording::fatal", "a primary flag, own clear: FATL"),
     (

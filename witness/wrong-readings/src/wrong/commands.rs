@@ -20,6 +20,12 @@ fn clear_vtr_but(unit: &mut Unit, code: u8, data: u8, flags: u8) {
     clear_vtr_and(unit, code, data, |unit| unit.vtr = kept);
 }
 
+/// The segment with URS, as it stands in MR, as bit 6.
+fn in_range(unit: &Unit, segment: u8) -> u8 {
+    let range = if unit.mode(mode::URS) { 64 } else { 0 };
+    segment % 64 + range
+}
+
 wrong! { Commands:
     ListsTwelve "%12 is listed, as a clear command" {
         fn listing(code: u8) -> Listing {
@@ -181,6 +187,17 @@ wrong! { Commands:
         fn software_reset(unit: &mut Unit) {
             Document01::software_reset(unit);
             unit.sar = 0;
+        }
+    }
+    SoftwareResetClearsRange "software reset clears bit 6 of VSN and ISN, as it clears URS" {
+        fn software_reset(unit: &mut Unit) {
+            Document01::software_reset(unit);
+            (unit.vsn, unit.isn) = (unit.vsn % 64, unit.isn % 64);
+        }
+    }
+    ClearVtrRange "clear VTR clears bit 6 of VSN" {
+        fn write_register(unit: &mut Unit, code: u8, data: u8) {
+            clear_vtr_and(unit, code, data, |unit| unit.vsn %= 64);
         }
     }
     ClearVtrRequest "clear VTR takes the request back" {
@@ -452,11 +469,34 @@ wrong! { Commands:
             driven
         }
     }
-    ReadsOfVsnShowSeven "a read of VSN shows the range bit of MR as bit 6" {
+    VsnReadsSix "a read of VSN shows six bits" {
         fn read_register(unit: &Unit, code: u8) -> u8 {
-            let range = if unit.mode(mode::URS) { 0x40 } else { 0 };
             match code {
-                code::VSN => unit.vsn | range,
+                code::VSN => unit.vsn % 64,
+                _ => Document01::read_register(unit, code),
+            }
+        }
+    }
+    IsnReadsSix "a read of ISN shows six bits" {
+        fn read_register(unit: &Unit, code: u8) -> u8 {
+            match code {
+                code::ISN => unit.isn % 64,
+                _ => Document01::read_register(unit, code),
+            }
+        }
+    }
+    VsnReadsRange "a read of VSN shows URS as it stands in MR as bit 6" {
+        fn read_register(unit: &Unit, code: u8) -> u8 {
+            match code {
+                code::VSN => in_range(unit, unit.vsn),
+                _ => Document01::read_register(unit, code),
+            }
+        }
+    }
+    IsnReadsRange "a read of ISN shows URS as it stands in MR as bit 6" {
+        fn read_register(unit: &Unit, code: u8) -> u8 {
+            match code {
+                code::ISN => in_range(unit, unit.isn),
                 _ => Document01::read_register(unit, code),
             }
         }
@@ -467,6 +507,14 @@ wrong! { Commands:
                 code::VSN => unit.voff,
                 code::VOFF => unit.vsn,
                 _ => Document01::read_register(unit, code),
+            }
+        }
+    }
+    ModeRenewsRange "a write of MR puts its URS into bit 6 of VSN and ISN" {
+        fn write_register(unit: &mut Unit, code: u8, data: u8) {
+            Document01::write_register(unit, code, data);
+            if code == code::MR {
+                (unit.vsn, unit.isn) = (in_range(unit, unit.vsn), in_range(unit, unit.isn));
             }
         }
     }

@@ -5,6 +5,7 @@ use super::wrong;
 use witness::checks::{Checks, Finding};
 use witness::cycle::{Answer, Cycle, Kind};
 use witness::generate::bus::finding;
+use witness::memory::Memory;
 use witness::recording::Recording;
 use witness::translation::{Route, Translation};
 use witness::unit::{attribute, mode, violation, Unit};
@@ -15,8 +16,13 @@ fn translates(unit: &Unit, cycle: &Cycle) -> bool {
 }
 
 fn store_instruction(unit: &mut Unit, cycle: &Cycle) {
-    unit.isn = cycle.entry();
+    unit.isn = Document01::kept_segment(cycle);
     unit.ioff = cycle.offset;
+}
+
+/// Of a cycle that has gone by: a fetch translated while the VTR is zero.
+fn stored_instruction(unit: &Unit, cycle: &Cycle, answer: &Answer) -> bool {
+    answer.kind == Kind::Translated && Document01::fetches(unit, cycle) && unit.vtr == 0
 }
 
 fn descriptor_attributes<'u>(unit: &'u mut Unit, cycle: &Cycle) -> &'u mut u8 {
@@ -400,13 +406,30 @@ wrong! { Memory:
             answer
         }
     }
-    InstructionSevenBits "ISN keeps seven bits" {
+    InstructionSixBits "ISN keeps six bits" {
         fn memory(unit: &mut Unit, cycle: &Cycle) -> Answer {
             let answer = Document01::memory(unit, cycle);
-            let fetch = Document01::fetches(unit, cycle) && unit.vtr == 0;
-            if answer.kind == Kind::Translated && fetch {
-                unit.isn = cycle.segment;
+            if stored_instruction(unit, cycle, &answer) {
+                unit.isn = cycle.entry();
             }
+            answer
+        }
+    }
+    InstructionRangeStays "a fetch leaves bit 6 of ISN as it was" {
+        fn memory(unit: &mut Unit, cycle: &Cycle) -> Answer {
+            let range = unit.isn & 0x40;
+            let answer = Document01::memory(unit, cycle);
+            if stored_instruction(unit, cycle, &answer) {
+                unit.isn = cycle.entry() | range;
+            }
+            answer
+        }
+    }
+    InstructionRangeSticks "bit 6 of ISN, once set, stays set" {
+        fn memory(unit: &mut Unit, cycle: &Cycle) -> Answer {
+            let range = unit.isn & 0x40;
+            let answer = Document01::memory(unit, cycle);
+            unit.isn |= range;
             answer
         }
     }

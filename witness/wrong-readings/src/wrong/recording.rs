@@ -41,7 +41,7 @@ wrong! { Recording:
     OwnStores "a further entry of the own instruction stores its address" {
         fn further_entry(unit: &mut Unit, cycle: &Cycle, flags: u8) {
             Document01::further_entry(unit, cycle, flags);
-            unit.vsn = cycle.entry();
+            unit.vsn = Document01::kept_segment(cycle);
             unit.voff = cycle.offset;
             unit.bcsr = cycle.bus_status();
         }
@@ -295,16 +295,53 @@ wrong! { Recording:
             let later = later(unit);
             Document01::record(unit, cycle, finding);
             if later && finding != Finding::Clean {
-                unit.vsn = cycle.entry();
+                unit.vsn = Document01::kept_segment(cycle);
                 unit.voff = cycle.offset;
                 unit.bcsr = cycle.bus_status();
             }
         }
     }
-    VsnSevenBits "VSN keeps seven bits" {
+    KeepsSix "VSN and ISN keep six bits" {
+        fn kept_segment(cycle: &Cycle) -> u8 {
+            cycle.entry()
+        }
+    }
+    KeepsInverted "VSN and ISN keep bit 6 inverted" {
+        fn kept_segment(cycle: &Cycle) -> u8 {
+            cycle.segment ^ 0x40
+        }
+    }
+    KeepsHigh "VSN and ISN keep the seven bits as bits 1 to 7" {
+        fn kept_segment(cycle: &Cycle) -> u8 {
+            cycle.segment << 1
+        }
+    }
+    VsnSixBits "VSN keeps six bits" {
         fn first_entry(unit: &mut Unit, cycle: &Cycle, flags: u8) {
             Document01::first_entry(unit, cycle, flags);
-            unit.vsn = cycle.segment;
+            unit.vsn = cycle.entry();
+        }
+    }
+    VsnSixOfWarning "VSN keeps six bits of a warning's segment" {
+        fn first_entry(unit: &mut Unit, cycle: &Cycle, flags: u8) {
+            Document01::first_entry(unit, cycle, flags);
+            if flags == violation::PWW {
+                unit.vsn = cycle.entry();
+            }
+        }
+    }
+    VsnRangeStays "a first entry leaves bit 6 of VSN as it was" {
+        fn first_entry(unit: &mut Unit, cycle: &Cycle, flags: u8) {
+            let range = unit.vsn & 0x40;
+            Document01::first_entry(unit, cycle, flags);
+            unit.vsn = cycle.entry() | range;
+        }
+    }
+    VsnRangeSticks "bit 6 of VSN, once set, stays set" {
+        fn first_entry(unit: &mut Unit, cycle: &Cycle, flags: u8) {
+            let range = unit.vsn & 0x40;
+            Document01::first_entry(unit, cycle, flags);
+            unit.vsn |= range;
         }
     }
     BcsrWriteBit "BCSR bit 4 is set for a write" {

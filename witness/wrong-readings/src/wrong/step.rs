@@ -22,6 +22,17 @@ fn step_if_whole(unit: &mut Unit, cycle: &Cycle, number: u8) -> Answer {
     }
 }
 
+/// Steps a unit that a narrower bound lets pass, and keeps no more than it has
+/// room for.
+fn narrow_step<R: Step>(unit: &mut Unit, cycle: &Cycle, keep: fn(&mut Unit)) -> Answer {
+    if R::damaged(unit) {
+        return Answer::quiet(Kind::Refused(2), unit.request);
+    }
+    let answer = Document01::step(unit, cycle);
+    keep(unit);
+    answer
+}
+
 /// Refusals 3 and 4, whatever the unit and the cycle's numbers.
 fn command_refusal(cycle: &Cycle) -> Option<u8> {
     let command = class(*cycle) == Class::Command;
@@ -73,14 +84,104 @@ wrong! { Step:
             step_if_whole(unit, cycle, 1)
         }
     }
-    WideVsn "VSN up to 127 is no damage" {
+    NarrowBoth "VSN and ISN above 63 are damage" {
         fn damaged(unit: &Unit) -> bool {
-            Document01::damaged(&Unit { vsn: unit.vsn & 0xBF, ..unit.clone() })
+            unit.vsn > 63 || unit.isn > 63 || Document01::damaged(unit)
         }
     }
-    WideIsn "ISN up to 127 is no damage" {
+    NarrowVsn "VSN above 63 is damage" {
         fn damaged(unit: &Unit) -> bool {
-            Document01::damaged(&Unit { isn: unit.isn & 0xBF, ..unit.clone() })
+            unit.vsn > 63 || Document01::damaged(unit)
+        }
+    }
+    NarrowIsn "ISN above 63 is damage" {
+        fn damaged(unit: &Unit) -> bool {
+            unit.isn > 63 || Document01::damaged(unit)
+        }
+    }
+    SixBoth "VSN and ISN keep six bits, and above 63 they are damage" {
+        fn damaged(unit: &Unit) -> bool {
+            NarrowBoth::damaged(unit)
+        }
+        fn step(unit: &mut Unit, cycle: &Cycle) -> Answer {
+            narrow_step::<Self>(unit, cycle, |unit| {
+                (unit.vsn, unit.isn) = (unit.vsn % 64, unit.isn % 64);
+            })
+        }
+    }
+    SixVsn "VSN keeps six bits, and above 63 it is damage" {
+        fn damaged(unit: &Unit) -> bool {
+            NarrowVsn::damaged(unit)
+        }
+        fn step(unit: &mut Unit, cycle: &Cycle) -> Answer {
+            narrow_step::<Self>(unit, cycle, |unit| unit.vsn %= 64)
+        }
+    }
+    SixIsn "ISN keeps six bits, and above 63 it is damage" {
+        fn damaged(unit: &Unit) -> bool {
+            NarrowIsn::damaged(unit)
+        }
+        fn step(unit: &mut Unit, cycle: &Cycle) -> Answer {
+            narrow_step::<Self>(unit, cycle, |unit| unit.isn %= 64)
+        }
+    }
+    WideVsn "VSN above 127 is no damage" {
+        fn damaged(unit: &Unit) -> bool {
+            Document01::damaged(&Unit { vsn: 0, ..unit.clone() })
+        }
+    }
+    WideIsn "ISN above 127 is no damage" {
+        fn damaged(unit: &Unit) -> bool {
+            Document01::damaged(&Unit { isn: 0, ..unit.clone() })
+        }
+    }
+    VsnOneMore "VSN 128 is no damage" {
+        fn damaged(unit: &Unit) -> bool {
+            let vsn = if unit.vsn == 128 { 0 } else { unit.vsn };
+            Document01::damaged(&Unit { vsn, ..unit.clone() })
+        }
+    }
+    IsnOneMore "ISN 128 is no damage" {
+        fn damaged(unit: &Unit) -> bool {
+            let isn = if unit.isn == 128 { 0 } else { unit.isn };
+            Document01::damaged(&Unit { isn, ..unit.clone() })
+        }
+    }
+    VsnOneLess "VSN 127 is damage" {
+        fn damaged(unit: &Unit) -> bool {
+            unit.vsn > 126 || Document01::damaged(unit)
+        }
+    }
+    IsnOneLess "ISN 127 is damage" {
+        fn damaged(unit: &Unit) -> bool {
+            unit.isn > 126 || Document01::damaged(unit)
+        }
+    }
+    VsnOwnRange "VSN of the range that URS does not name is damage" {
+        fn damaged(unit: &Unit) -> bool {
+            (unit.vsn > 63) != unit.mode(mode::URS) || Document01::damaged(unit)
+        }
+    }
+    IsnOwnRange "ISN of the range that URS does not name is damage" {
+        fn damaged(unit: &Unit) -> bool {
+            (unit.isn > 63) != unit.mode(mode::URS) || Document01::damaged(unit)
+        }
+    }
+    SevenSar "SAR up to 127 is no damage, and is cut to six bits" {
+        fn damaged(unit: &Unit) -> bool {
+            Document01::damaged(&Unit { sar: unit.sar & 0xBF, ..unit.clone() })
+        }
+        fn step(unit: &mut Unit, cycle: &Cycle) -> Answer {
+            if let Some(number) = Self::refusal(unit, cycle) {
+                return Answer::quiet(Kind::Refused(number), unit.request);
+            }
+            unit.sar %= 64;
+            Document01::step(unit, cycle)
+        }
+    }
+    SevenBcsr "BCSR up to 127 is no damage" {
+        fn damaged(unit: &Unit) -> bool {
+            Document01::damaged(&Unit { bcsr: unit.bcsr & 0xBF, ..unit.clone() })
         }
     }
     WideBcsr "BCSR above 63 is no damage" {
@@ -411,6 +512,12 @@ wrong! { Step:
             (unit.isn, unit.ioff) = (0, 0);
         }
     }
+    ResetClearsRange "a reset clears bit 6 of VSN and ISN, as it clears URS" {
+        fn reset(unit: &mut Unit, cycle: &Cycle) {
+            Document01::reset(unit, cycle);
+            (unit.vsn, unit.isn) = (unit.vsn % 64, unit.isn % 64);
+        }
+    }
     ResetClearsTable "a reset clears the descriptors" {
         fn reset(unit: &mut Unit, cycle: &Cycle) {
             Document01::reset(unit, cycle);
@@ -541,6 +648,12 @@ wrong! { Step:
             let data = Document01::acknowledge(unit, cycle);
             unit.vtr = 0;
             data
+        }
+    }
+    AcknowledgeClearsRange "an acknowledge clears bit 6 of VSN" {
+        fn acknowledge(unit: &mut Unit, cycle: &Cycle) -> Option<u8> {
+            unit.vsn %= 64;
+            Document01::acknowledge(unit, cycle)
         }
     }
     HoldInCommands "a standing hold turns SUP on in commands and acknowledges" {

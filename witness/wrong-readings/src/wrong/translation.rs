@@ -120,6 +120,12 @@ wrong! { Translation:
             unit.table[usize::from(cycle.entry())].base | u16::from(cycle.offset)
         }
     }
+    UpperLast "every segment above 63 has the base of descriptor 63" {
+        fn physical(unit: &Unit, cycle: &Cycle) -> u16 {
+            let segment = cycle.segment.min(63);
+            Document01::physical(unit, &Cycle { segment, ..*cycle })
+        }
+    }
     StackFromLimit "a stack's offset counts from its limit" {
         fn physical(unit: &Unit, cycle: &Cycle) -> u16 {
             let descriptor = &unit.table[usize::from(cycle.entry())];
