@@ -1,4 +1,5 @@
--- What a set or clear command does to a unit, whatever its data byte, and how that goes together with what other commands do.
+-- What a selected command does to a unit: one that shows or writes a register, and a set or clear command, whatever its data byte, with how
+-- that goes together with what other commands do.
 -- Assumes nothing.
 use mathlib.Core.Path.{_≡_, refl, sym, _∙_, ap}
 use mathlib.Core.Bool.{Bool, true, false, not, _&&_, true≢false, false≢true}
@@ -8,16 +9,20 @@ use native.Mathlib.Omega.{arith}
 use lib.Bits.{bitAnd, and-zero-r}
 use lib.Dec.{eqb}
 use lib.ListN.{length, getD}
-use borrow.Author.Tests.{eqb-true}
+use borrow.Author.Tests.{eqb-true, not-true}
+use Rattle.rules.specs.Bus.{cpu}
+use Rattle.rules.specs.Codes.{commandOf}
 use Rattle.rules.specs.Flags.{without}
 use Rattle.rules.specs.Masks.{CPUI, DMAI, SWW, FATL}
 use Rattle.rules.specs.PowerOn.{blank}
+use Rattle.rules.specs.Refusals.{damaged, outOfRange}
 use Rattle.rules.specs.Replies.{spoken, plain, refused}
 use Rattle.rules.specs.Computed.{moving}
 use Rattle.rules.specs.Entry.{replaced}
-use Rattle.rules.specs.Commands.{replied, programmed, entry, restarted, acted, executed}
+use Rattle.rules.specs.Commands.{replied, programmed, entry, restarted, acted, executed, commanded}
 use Rattle.rules.specs.Registers.{withVtr}
-use Rattle.rules.specs.Step.{withFlags, changed}
+use Rattle.rules.specs.Status.{purposeOf, byStatus}
+use Rattle.rules.specs.Step.{withFlags, placeOf, place, changed, decided, decision}
 use Rattle.rules.specs.declared.Action.{Action}
 use Rattle.rules.specs.declared.Action.the-variants.{SoftwareReset, ClearVtr, ClearSww, ClearFatl, SetCpui, SetDmai}
 use Rattle.rules.specs.declared.Answer.{Answer}
@@ -29,20 +34,43 @@ use Rattle.rules.specs.declared.Descriptor.{Descriptor}
 use Rattle.rules.specs.declared.Part.the-variants.{Base, Limit, Attributes, Whole}
 use Rattle.rules.specs.declared.Stepped.{Stepped}
 use Rattle.rules.specs.declared.Unit.{Unit}
+use Rattle.theorems_runs.specs.Cycles.{selectedCommand}
+use Rattle.theorems_runs.specs.Refusal.{admitted}
 use Rattle.theorems_runs.proofs.Bits.{with-twice, with-either, without-part, without-either}
 use Rattle.theorems_runs.proofs.Tables.{at-map, map-set, map-map}
+use Rattle.theorems_runs.proofs.Tests.{and-l, and-r}
 use Rattle.rules.specs.declared.Kind.the-variants as kind
 
--- what is decided in a command that writes
-abbrev decides : Command → Unit → Cycle → Decision
-decides m u c = executed m false (u .registers) (getD (u .table) (u .registers .control .sar % 64) blank) c
+-- what is decided in a command
+abbrev pub decides : Command → (read : Bool) → Unit → Cycle → Decision
+decides m read u c = executed m read (u .registers) (getD (u .table) (u .registers .control .sar % 64) blank) c
 
--- and what it does
+-- and what one that writes does
 abbrev pub done : Command → Unit → Cycle → Stepped
 done m u c = record {
-  unit = record { table = changed (decides m u c .change) (u .registers .control .sar % 64) (u .table); registers = decides m u c .registers };
-  answer = decides m u c .answer;
+  unit = record {
+    table = changed (decides m false u c .change) (u .registers .control .sar % 64) (u .table);
+    registers = decides m false u c .registers;
+  };
+  answer = decides m false u c .answer;
 }
+
+-- a selected command that is refused neither by 2 nor by 1 works at SAR, and decides what its code stands for
+module _ (u : Unit) (c : Cycle) (a : admitted u c ≡ true) (s : selectedCommand c ≡ true) where
+  pub command-place : place u c ≡ u .registers .control .sar % 64
+  unfolding placeOf
+  command-place = rw (and-r (not (c .reset)) _ (and-l (not (c .reset) && eqb (c .status) 3) _ s))
+
+  pub command-decided : decision u c ≡ decides (commandOf (c .offset)) (c .read) u c
+  unfolding decision decided byStatus purposeOf commanded
+  command-decided =
+      let r : (not (c .reset) && eqb (c .status) 3) ≡ true = and-l (not (c .reset) && eqb (c .status) 3) _ s in
+      let sound : damaged (u .registers) ≡ false = not-true _ (and-l (not (damaged (u .registers))) _ a) in
+      let inside : outOfRange c ≡ false = not-true _ (and-r (not (damaged (u .registers))) _ a) in
+      let running : c .reset ≡ false = not-true _ (and-l (not (c .reset)) _ r) in
+      let command : c .status ≡ 3 = eqb-true _ _ (and-r (not (c .reset)) _ r) in
+      let selected : (cpu c && c .select) ≡ true = and-r (not (c .reset) && eqb (c .status) 3) _ s in
+      rw (command-place, sound, inside, running, command, selected)
 
 abbrev pub left : Stepped → Unit
 left s = s .unit

@@ -5,16 +5,13 @@ use mathlib.Core.Bool.{Bool, true, false, not, _&&_, Bool·beq}
 use mathlib.Core.List.{List, [], _∷_}
 use mathlib.Core.Logic.{_↔_}
 use Prim.Native.Nat.{ℕ}
-use lib.Dec.{eqb}
 use borrow.Author.Tests.{eqb-true, not-true}
-use Rattle.rules.specs.Bus.{cpu, write}
+use Rattle.rules.specs.Bus.{write}
 use Rattle.rules.specs.Masks.{CPUI, DMAI}
 use Rattle.rules.specs.Refusals.{outOfRange}
 use Rattle.rules.specs.Runs.{answers, final}
-use Rattle.rules.specs.Status.{purposeOf, byStatus}
 use Rattle.rules.specs.Codes.{commandOf}
-use Rattle.rules.specs.Commands.{commanded}
-use Rattle.rules.specs.Step.{decided, placeOf, decision, after, stepped}
+use Rattle.rules.specs.Step.{after, stepped}
 use Rattle.rules.specs.declared.Action.{Action}
 use Rattle.rules.specs.declared.Action.the-variants.{SoftwareReset, ClearVtr, ClearSww, ClearFatl, SetCpui, SetDmai}
 use Rattle.rules.specs.declared.Command.{Command}
@@ -27,11 +24,12 @@ use Rattle.theorems_runs.specs.Cycles.{selectedCommand, setsAndClears, s
 use Rattle.theorems_runs.specs.Exchange.{Exchange, FirstAlone, SecondAlone, SameAnswers, part, clearsTrap}
 use Rattle.theorems_runs.specs.Exchange.{ExchangesExactly, AloneExactly, AnswersExactly}
 use Rattle.theorems_runs.specs.Exchange.{CpuiTwice, DmaiTwice, CpuiDmai, SwwFatl, VtrBeforeReset, VtrAfterReset}
+use Rattle.theorems_runs.specs.Refusal.{admitted}
 use Rattle.theorems_runs.specs.Sequences.{Every, among, all}
 use Rattle.theorems_runs.specs.Undamaged.{Undamaged}
 use Rattle.theorems_runs.proofs.Apart.{not-exchanged, only-part, only-alike}
 use Rattle.theorems_runs.proofs.Codes.{codeOf, by-number, past-list}
-use Rattle.theorems_runs.proofs.Effects.{done, left, raises, resets, effect, does, said, request, acted-on, act-done}
+use Rattle.theorems_runs.proofs.Effects.{done, command-place, command-decided, left, raises, resets, effect, does, said, request, acted-on, act-done}
 use Rattle.theorems_runs.proofs.Effects.{either, within, idle, clash, no-clash, passes, isReset, request-after}
 use Rattle.theorems_runs.proofs.Tests.{and-l, and-r, same, of-each, all-true}
 use Rattle.theorems_runs.proofs.Undamaged.{undamaged-after}
@@ -45,18 +43,14 @@ writing n c w =
 
 -- what all the laws rest on: a write that is refused neither by 2 nor by 1 does what its code stands for
 obeyed : (n : ℕ) (u : Unit) (c : Cycle) → Undamaged u → writes n c ≡ true → stepped u c ≡ done (commandOf n) u c
-unfolding decision decided placeOf after byStatus purposeOf commanded
+unfolding after
 obeyed n u c h w =
     let code : c .offset ≡ n = eqb-true _ _ (and-r (not (outOfRange c) && selectedCommand c && write c) _ w) in
-    let w₃ : (not (outOfRange c) && selectedCommand c && write c) ≡ true = and-l (not (outOfRange c) && selectedCommand c && write c) _ w in
-    let w₂ : (not (outOfRange c) && selectedCommand c) ≡ true = and-l (not (outOfRange c) && selectedCommand c) _ w₃ in
-    let inside : outOfRange c ≡ false = not-true _ (and-l (not (outOfRange c)) _ w₂) in
-    let w₁ : selectedCommand c ≡ true = and-r (not (outOfRange c)) _ w₂ in
-    let selected : (cpu c && c .select) ≡ true = and-r (not (c .reset) && eqb (c .status) 3) _ w₁ in
-    let w₀ : (not (c .reset) && eqb (c .status) 3) ≡ true = and-l (not (c .reset) && eqb (c .status) 3) _ w₁ in
-    let running : c .reset ≡ false = not-true _ (and-l (not (c .reset)) _ w₀) in
-    let command : c .status ≡ 3 = eqb-true _ _ (and-r (not (c .reset)) _ w₀) in
-    rw (h .sound, inside, running, command, selected, writing n c w, code)
+    let w₂ : (not (outOfRange c) && selectedCommand c) ≡ true =
+    and-l (not (outOfRange c) && selectedCommand c) _ (and-l (not (outOfRange c) && selectedCommand c && write c) _ w) in
+    let taken : admitted u c ≡ true = rw (h .sound) (and-l (not (outOfRange c)) _ w₂) in
+    let selected : selectedCommand c ≡ true = and-r (not (outOfRange c)) _ w₂ in
+    rw (command-decided u c taken selected, command-place u c taken selected, writing n c w, code)
 
 -- By their codes
 

@@ -3,7 +3,7 @@
 use mathlib.Core.Path.{_≡_, refl, sym, _∙_, ap}
 use mathlib.Core.Bool.{Bool, true, false, cond, not, _&&_, _||_, Bool·beq, true≢false, false≢true}
 use mathlib.Core.List.{List, [], _∷_}
-use Prim.Native.Nat.{ℕ, _%_, _≤_}
+use Prim.Native.Nat.{ℕ, _≤_}
 use native.Mathlib.Omega.{arith}
 use lib.Dec.{eqb, leb, ltb}
 use lib.ListN.{getD}
@@ -11,15 +11,14 @@ use borrow.Author.Tests.{eqb-true, ltb-false, not-true}
 use Rattle.rules.specs.Bus.{cpu, write, fetch, sevenBits}
 use Rattle.rules.specs.Checks.{rightsOf, outOfLength, warnsBy, warns}
 use Rattle.rules.specs.Codes.{commandOf}
-use Rattle.rules.specs.Commands.{replied, executed, commanded}
+use Rattle.rules.specs.Commands.{replied, executed}
 use Rattle.rules.specs.Flags.{has, lacks, with, flagIf}
 use Rattle.rules.specs.Masks.{SYS, DIRW, SLV, PRIMARY, TRNS, MSEN}
 use Rattle.rules.specs.PowerOn.{blank}
 use Rattle.rules.specs.Recording.{busStatus, eventBy, eventOf}
 use Rattle.rules.specs.Refusals.{damaged, outOfRange}
 use Rattle.rules.specs.Seen.{segment, cycle, command}
-use Rattle.rules.specs.Status.{purposeOf, byStatus}
-use Rattle.rules.specs.Step.{decided, decision, after, place, stepped}
+use Rattle.rules.specs.Step.{decision, after, place, stepped}
 use Rattle.rules.specs.declared.Answer.{Answer}
 use Rattle.rules.specs.declared.Cycle.{Cycle}
 use Rattle.rules.specs.declared.Descriptor.{Descriptor}
@@ -35,6 +34,7 @@ use Rattle.theorems_runs.specs.Refusal.{admitted}
 use Rattle.theorems_runs.specs.Sequences.{Along}
 use Rattle.theorems_runs.proofs.Answers.{fails, breaks-exactly, memory-place, where-true}
 use Rattle.theorems_runs.proofs.Computed.{computed}
+use Rattle.theorems_runs.proofs.Effects.{decides, command-decided}
 use Rattle.theorems_runs.proofs.Examples.{unitOfThree}
 use Rattle.theorems_runs.proofs.Looks.{conditions-way}
 use Rattle.theorems_runs.proofs.Registers.{companions, instruction, eventful, faultStored, fetchStored, leaves}
@@ -50,7 +50,8 @@ eventful-exactly d c =
     ∙ ap (λ (t : Bool). cpu c && (t || write c && has (d .attributes) DIRW && eqb (c .offset) (d .limit))) (breaks-exactly d c)
   where
     go : (dma v read down edge : Bool) → c .dma ≡ dma → fails d c ≡ v
-        → not (eqb (eventBy dma v (warnsBy dma read v down edge) (with (rightsOf (d .attributes) c) (flagIf (outOfLength d c) SLV))) 0) ≡ (not dma && (v || not read && down && edge))
+        → not (eqb (eventBy dma v (warnsBy dma read v down edge) (with (rightsOf (d .attributes) c) (flagIf (outOfLength d c) SLV))) 0)
+        ≡ (not dma && (v || not read && down && edge))
     go true v read down edge p q = refl
     go false true read down edge p q = ap not (flags-some d c p q)
     go false false true down edge p q = refl
@@ -94,13 +95,11 @@ fetch-told false false m true w t b z = refl
 fetch-told false false m false w t b z = refl
 
 module _ (u : Unit) (c : Cycle) where
-  mr : ℕ
-  mr = u .registers .control .mr
-
   -- the descriptor at the cycle's place is its segment's
   first-exactly : (admitted u c && memoryCycle c && faultStored (u .registers) (getD (u .table) (place u c) blank) c) ≡ storesFault u c
-  unfolding faultStored mr
+  unfolding faultStored
   first-exactly =
+      let mr : ℕ = u .registers .control .mr in
       where-true (admitted u c && memoryCycle c) _ (faultStored (u .registers) (segmentOf u c) c)
       (λ e. ap (λ (i : ℕ). faultStored (u .registers) (getD (u .table) i blank) c) (memory-place u c (and-r (admitted u c) _ e)))
       ∙ rw (conditions-way mr c, eventful-exactly (segmentOf u c) c)
@@ -109,8 +108,9 @@ module _ (u : Unit) (c : Cycle) where
       (eqb (c .offset) (segmentOf u c .limit)) (lacks (u .registers .faults .vtr) PRIMARY))
 
   start-exactly : (admitted u c && memoryCycle c && fetchStored (u .registers) (getD (u .table) (place u c) blank) c) ≡ storesFetch u c
-  unfolding fetchStored mr
+  unfolding fetchStored
   start-exactly =
+      let mr : ℕ = u .registers .control .mr in
       where-true (admitted u c && memoryCycle c) _ (fetchStored (u .registers) (segmentOf u c) c)
       (λ e. ap (λ (i : ℕ). fetchStored (u .registers) (getD (u .table) i blank) c) (memory-place u c (and-r (admitted u c) _ e)))
       ∙ rw (conditions-way mr c, breaks-exactly (segmentOf u c) c)
@@ -148,11 +148,11 @@ module _ (u : Unit) (c : Cycle) where
       let k : Bool = has (u .registers .control .mr) MSEN && has (u .registers .control .mr) TRNS in
       sym (same (urs u) (upper (c .segment)) (and-r k _ (and-l (k && Bool·beq (urs u) (upper (c .segment))) _ t)))
 
-  -- a part of what is stored, where it is stored and where it is not
-  kept-part : {A : Type 0} (part : A → ℕ) (stores : Bool) (new old : A) (n : ℕ) → (stores ≡ true → part new ≡ n)
-      → part (cond stores new old) ≡ cond stores n (part old)
-  kept-part part true new old n h = h refl
-  kept-part part false new old n h = refl
+-- a part of what is stored, where it is stored and where it is not
+part-stored : {A : Type 0} (part : A → ℕ) (stores : Bool) (new old : A) (n : ℕ) → (stores ≡ true → part new ≡ n)
+    → part (cond stores new old) ≡ cond stores n (part old)
+part-stored part true new old n h = h refl
+part-stored part false new old n h = refl
 
 pub stored-exactly : StoredExactly
 unfolding after
@@ -162,35 +162,25 @@ stored-exactly u c =
     record {
       vsn =
           ap (λ (f : Faults). f .vsn) first
-          ∙ kept-part u c (λ (f : Faults). f .vsn) (storesFault u c) _ _ (c .segment) (λ e. whole u c (fault-translated u c e));
-      voff = ap (λ (f : Faults). f .voff) first ∙ kept-part u c (λ (f : Faults). f .voff) (storesFault u c) _ _ (c .offset) (λ e. refl);
-      bcsr = ap (λ (f : Faults). f .bcsr) first ∙ kept-part u c (λ (f : Faults). f .bcsr) (storesFault u c) _ _ (busStatus c) (λ e. refl);
+          ∙ part-stored (λ (f : Faults). f .vsn) (storesFault u c) _ _ (c .segment) (λ e. whole u c (fault-translated u c e));
+      voff = ap (λ (f : Faults). f .voff) first ∙ part-stored (λ (f : Faults). f .voff) (storesFault u c) _ _ (c .offset) (λ e. refl);
+      bcsr = ap (λ (f : Faults). f .bcsr) first ∙ part-stored (λ (f : Faults). f .bcsr) (storesFault u c) _ _ (busStatus c) (λ e. refl);
       isn =
           ap (λ (f : Fetched). f .isn) start
-          ∙ kept-part u c (λ (f : Fetched). f .isn) (storesFetch u c) _ _ (c .segment) (λ e. whole u c (fetch-translated u c e));
-      ioff = ap (λ (f : Fetched). f .ioff) start ∙ kept-part u c (λ (f : Fetched). f .ioff) (storesFetch u c) _ _ (c .offset) (λ e. refl);
+          ∙ part-stored (λ (f : Fetched). f .isn) (storesFetch u c) _ _ (c .segment) (λ e. whole u c (fetch-translated u c e));
+      ioff = ap (λ (f : Fetched). f .ioff) start ∙ part-stored (λ (f : Fetched). f .ioff) (storesFetch u c) _ _ (c .offset) (λ e. refl);
     }
 
 -- Reads
 
 -- a read that is refused neither by 2 nor by 1 shows what its code stands for
-shown : (n : ℕ) (u : Unit) (c : Cycle) → reads n u c ≡ true
-    → decision u c .answer ≡ executed (commandOf n) true (u .registers) (getD (u .table) (place u c) blank) c .answer
-unfolding decision decided byStatus purposeOf commanded
+shown : (n : ℕ) (u : Unit) (c : Cycle) → reads n u c ≡ true → decision u c .answer ≡ decides (commandOf n) true u c .answer
 shown n u c e =
-    let s₃ : (admitted u c && selectedCommand c && c .read) ≡ true = and-l (admitted u c && selectedCommand c && c .read) _ e in
-    let s₂ : (admitted u c && selectedCommand c) ≡ true = and-l (admitted u c && selectedCommand c) _ s₃ in
-    let s₁ : admitted u c ≡ true = and-l (admitted u c) _ s₂ in
-    let s₀ : selectedCommand c ≡ true = and-r (admitted u c) _ s₂ in
-    let r₀ : (not (c .reset) && eqb (c .status) 3) ≡ true = and-l (not (c .reset) && eqb (c .status) 3) _ s₀ in
-    let sound : damaged (u .registers) ≡ false = not-true _ (and-l (not (damaged (u .registers))) _ s₁) in
-    let inside : outOfRange c ≡ false = not-true _ (and-r (not (damaged (u .registers))) _ s₁) in
-    let running : c .reset ≡ false = not-true _ (and-l (not (c .reset)) _ r₀) in
-    let command : c .status ≡ 3 = eqb-true _ _ (and-r (not (c .reset)) _ r₀) in
-    let selected : (cpu c && c .select) ≡ true = and-r (not (c .reset) && eqb (c .status) 3) _ s₀ in
-    let reading : c .read ≡ true = and-r (admitted u c && selectedCommand c) _ s₃ in
+    let r : (admitted u c && selectedCommand c && c .read) ≡ true = and-l (admitted u c && selectedCommand c && c .read) _ e in
+    let s : (admitted u c && selectedCommand c) ≡ true = and-l (admitted u c && selectedCommand c) _ r in
+    let reading : c .read ≡ true = and-r (admitted u c && selectedCommand c) _ r in
     let code : c .offset ≡ n = eqb-true _ _ (and-r (admitted u c && selectedCommand c && c .read) _ e) in
-    rw (sound, inside, running, command, selected, reading, code)
+    rw (command-decided u c (and-l (admitted u c) _ s) (and-r (admitted u c) _ s), reading, code)
 
 pub read-shows : ReadShows
 unfolding commandOf executed replied
