@@ -29,7 +29,8 @@ use Rattle.theorems_runs.specs.Sequences.{Every, among, all}
 use Rattle.theorems_runs.specs.Undamaged.{Undamaged}
 use Rattle.theorems_runs.proofs.Apart.{not-exchanged, only-part, only-alike}
 use Rattle.theorems_runs.proofs.Codes.{codeOf, by-number, past-list}
-use Rattle.theorems_runs.proofs.Effects.{done, command-place, command-decided, left, raises, resets, effect, does, said, request, acted-on, act-done}
+use Rattle.theorems_runs.proofs.Effects.{done, command-place, command-decided, left}
+use Rattle.theorems_runs.proofs.Effects.{raises, resets, effect, does, said, request, acted-on, act-done}
 use Rattle.theorems_runs.proofs.Effects.{either, within, idle, clash, no-clash, passes, isReset, request-after}
 use Rattle.theorems_runs.proofs.Tests.{and-l, and-r, same, of-each, all-true}
 use Rattle.theorems_runs.proofs.Undamaged.{undamaged-after}
