@@ -9,7 +9,7 @@ use Rattle.rules.specs.Recording.{firstEntry}
 use Rattle.rules.specs.PowerOn.{faultsOf, notesOf}
 use Rattle.rules.specs.Seen.{Row, row, rowAfter, holds, segment, noNote, warned, everyNote, standing, translating}
 use Rattle.rules.specs.Seen.{cycle, writes, command, drivesBlock, drivesByte, drivesNothing, translated, refusal}
-use Rattle.rules.specs.Rows.{strays, fetches, idleHalf, strayed, fetched}
+use Rattle.rules.specs.Rows.{writesTo, fetchesFrom, idleHalf, faultedHalf, fetchedHalf}
 use Rattle.rules.specs.CycleRows.{numbered, idle}
 use Rattle.rules.specs.MemoryRows.{unitAs, unitIn, fetchedAt, fetchAt, readAt, writeAt, requested}
 use Rattle.rules.specs.CodeRows.{unitBy, unitAt, tableWith, own}
@@ -92,10 +92,10 @@ turnedReadings =
     (unitBy 0x5A 0x15 1 0 everyNote (tableWith own 0)))
     (drivesNothing kind.Command false false) (unitBy 0x5A 0x15 1 0 noNote (tableWith own 0)) ∷
     -- 48: VSN keeps six bits, or ISN does
-    turned (row (idleHalf 0xE0) (strays 65) (translated 0x93 true true) (strayed 0xE0 0x41))
-    (translated 0x93 true true) (strayed 0xE0 0x01) ∷
-    turned (row (idleHalf 0xE0) (fetches 65) (translated 0x02 false false) (fetched 0xE0 0x41))
-    (translated 0x02 false false) (fetched 0xE0 0x01) ∷
+    turned (row (idleHalf 0xE0) (writesTo 65) (translated 0x93 true true) (faultedHalf 0xE0 0x41))
+    (translated 0x93 true true) (faultedHalf 0xE0 0x01) ∷
+    turned (row (idleHalf 0xE0) (fetchesFrom 65) (translated 0x02 false false) (fetchedHalf 0xE0 0x41))
+    (translated 0x02 false false) (fetchedHalf 0xE0 0x01) ∷
     -- 49: VSN is bounded by 63 still, or ISN is; SAR or BCSR by 127 too
     turned (row (numbered 63 3 64 63 63) (idle 15) (drivesNothing kind.Ignored false true) (numbered 63 3 64 63 63))
     (drivesNothing (kind.Refused 2) false true) (numbered 63 3 64 63 63) ∷
@@ -103,6 +103,9 @@ turnedReadings =
     (drivesNothing (kind.Refused 2) false true) (numbered 63 3 63 63 64) ∷
     turned (refusal 2 (numbered 64 3 63 63 63) (idle 15)) (drivesNothing kind.Ignored false true) (numbered 64 3 63 63 63) ∷
     turned (refusal 2 (numbered 63 3 63 64 63) (idle 15)) (drivesNothing kind.Ignored false true) (numbered 63 3 63 64 63) ∷
+    -- 50: a read of VSN takes bit 6 from URS as it stands, here clear, or a read of ISN does
+    turned (row (unitAt 1) (command true 0x03 0) (drivesByte kind.Command 0x6A true) (unitAt 1)) (drivesByte kind.Command 0x2A true) (unitAt 1) ∷
+    turned (row (unitAt 1) (command true 0x06 0) (drivesByte kind.Command 0x53 true) (unitAt 1)) (drivesByte kind.Command 0x13 true) (unitAt 1) ∷
     []
 
 pub wrong-turns-refuted : T (allRefuted wrongTurns)

@@ -48,7 +48,7 @@ abortedFetches =
     []
 
 -- "Otherwise own and hold are cleared first, and the cycle goes on." "A CPU read at %D translated without violation, not aborted, stores ISN
--- [..] and IOFF while VTR is zero.": ticket 2, the whole segment, 69 of a unit with URS too
+-- [..] and IOFF while VTR is zero."; ticket 2: the whole segment, 69 in a unit with URS
 abbrev pub fetches : List Row
 fetches =
     row (unitIn 0 (notesOf true false true true) 0) (fetchAt 0x15) (translated 0x2315 false true) (fetchedAt 0xC0 5 0x15 requested 0x80) ∷

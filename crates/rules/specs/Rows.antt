@@ -60,38 +60,40 @@ lengths =
     ++ below 255 (λ o. readIsSlv 0 0 (suc o))
     ++ below 255 (λ o. writePasses 0 0x20 (suc o))
 
--- a unit with URS or without, whose segment 1 has limit %02 and attributes %01, REF with them or not; what stands in its faults, ISN and IOFF
+-- a unit by MR, with URS or without, faults, ISN, IOFF, notes and the attributes of descriptor 1, which has limit %02
 abbrev pub halfOf : (mr : ℕ) → Faults → (isn ioff : ℕ) → Notes → (attributes : ℕ) → Unit
 halfOf mr f isn ioff n a = unitHolding mr 0 0 f isn ioff n 1 (segment 0 0x02 a)
 
 -- P6's write, and a fetch from block 2, of a segment
-abbrev pub strays : (number : ℕ) → Cycle
-strays number = cycle false false true 8 number 0x93
+abbrev pub writesTo : (number : ℕ) → Cycle
+writesTo number = cycle false false true 8 number 0x93
 
-abbrev pub fetches : (number : ℕ) → Cycle
-fetches number = cycle false true true 0xD number 0x02
+abbrev pub fetchesFrom : (number : ℕ) → Cycle
+fetchesFrom number = cycle false true true 0xD number 0x02
 
--- the two halves before anything, after the write, and after the fetch
+-- such a unit before anything, after the write, and after the fetch
 abbrev pub idleHalf : (mr : ℕ) → Unit
 idleHalf mr = halfOf mr (faultsOf 0 0 0 0) 0 0 noNote 0x01
 
-abbrev pub strayed : (mr vsn : ℕ) → Unit
-strayed mr vsn = halfOf mr (faultsOf 0x05 vsn 0x93 0x28) 0 0 everyNote 0x01
+abbrev pub faultedHalf : (mr vsn : ℕ) → Unit
+faultedHalf mr vsn = halfOf mr (faultsOf 0x05 vsn 0x93 0x28) 0 0 everyNote 0x01
 
-abbrev pub fetched : (mr isn : ℕ) → Unit
-fetched mr isn = halfOf mr (faultsOf 0 0 0 0) isn 0x02 noNote 0x81
+abbrev pub fetchedHalf : (mr isn : ℕ) → Unit
+fetchedHalf mr isn = halfOf mr (faultsOf 0 0 0 0) isn 0x02 noNote 0x81
+
+-- a segment that VSN keeps, and ISN, and that commands %03 and %06 read
+abbrev pub keeps : (mr number : ℕ) → List Row
+keeps mr number =
+    row (idleHalf mr) (writesTo number) (translated 0x93 true true) (faultedHalf mr number) ∷
+    rowAfter (idleHalf mr) (writesTo number ∷ []) (command true 0x03 0) (drivesByte kind.Command number true) (faultedHalf mr number) ∷
+    row (idleHalf mr) (fetchesFrom number) (translated 0x02 false false) (fetchedHalf mr number) ∷
+    rowAfter (idleHalf mr) (fetchesFrom number ∷ []) (command true 0x06 0) (drivesByte kind.Command number false) (fetchedHalf mr number) ∷
+    []
 
 -- "P6 unit with URS, segment 65, limit %02, attributes %01, normal data write at %93: VTR %05, BCSR %28, [..] VOFF %93"; ticket 2: "P6 becomes
--- VSN %41." "VSN and ISN keep all seven bits": commands %03 and %06 read them, and the other half's have bit 6 clear
+-- VSN %41." "VSN and ISN keep all seven bits": of either half
 abbrev pub recording : List Row
-recording =
-    row (idleHalf 0xE0) (strays 65) (translated 0x93 true true) (strayed 0xE0 0x41) ∷
-    rowAfter (idleHalf 0xE0) (strays 65 ∷ []) (command true 0x03 0) (drivesByte kind.Command 0x41 true) (strayed 0xE0 0x41) ∷
-    row (idleHalf 0xC0) (strays 1) (translated 0x93 true true) (strayed 0xC0 0x01) ∷
-    row (idleHalf 0xE0) (fetches 65) (translated 0x02 false false) (fetched 0xE0 0x41) ∷
-    rowAfter (idleHalf 0xE0) (fetches 65 ∷ []) (command true 0x06 0) (drivesByte kind.Command 0x41 false) (fetched 0xE0 0x41) ∷
-    row (idleHalf 0xC0) (fetches 1) (translated 0x02 false false) (fetched 0xC0 0x01) ∷
-    []
+recording = keeps 0xE0 0x41 ++ keeps 0xC0 0x01
 
 -- at SAR 63 and DSCR 3, byte 3 of a descriptor is its attributes
 abbrev pub lastByte : (sar dscr attributes : ℕ) → Unit

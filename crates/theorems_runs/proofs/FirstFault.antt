@@ -1,7 +1,7 @@
 -- While a primary flag stands in VTR, the first fault is kept.
 -- Assumes nothing.
 use mathlib.Core.Path.{_≡_, refl, sym, _∙_, ap}
-use mathlib.Core.Bool.{Bool, true, false, true≢false, false≢true}
+use mathlib.Core.Bool.{Bool, true, false, not, _&&_, _||_, and-false, true≢false, false≢true}
 use mathlib.Core.List.{List, [], _∷_}
 use Prim.Native.Nat.{ℕ, zero, suc, _-_, _/_, _%_, _^_, _<_}
 use native.Mathlib.Omega.{arith}
@@ -12,24 +12,26 @@ use Rattle.rules.proofs.FlagLaws.{has-bit}
 use Rattle.rules.specs.Flags.{has, lacks}
 use Rattle.rules.specs.Masks.{SYS, RDV, SYSV, SLV, CPUIV, EXCV, PWW, PRIMARY}
 use Rattle.rules.specs.PowerOn.{blank}
-use Rattle.rules.specs.Registers.{withVtr}
 use Rattle.rules.specs.Seen.{segment, cycle}
 use Rattle.rules.specs.Runs.{units}
 use Rattle.rules.specs.Status.{quieted}
-use Rattle.rules.specs.Recording.{firstEntry, added, raised, recorded}
+use Rattle.rules.specs.Recording.{firstEntry, added, raised}
 use Rattle.rules.specs.Memory.{begun, noted, resumed}
 use Rattle.rules.specs.Step.{after, stepped}
 use Rattle.rules.specs.declared.Cycle.{Cycle}
-use Rattle.rules.specs.declared.Faults.{Faults}
-use Rattle.rules.specs.declared.Fetched.{Fetched}
 use Rattle.rules.specs.declared.Registers.{Registers}
 use Rattle.rules.specs.declared.Unit.{Unit}
+use Rattle.theorems_runs.specs.Answers.{segmentOf, breaks, translated}
+use Rattle.theorems_runs.specs.Cycles.{fetches}
 use Rattle.theorems_runs.specs.FirstFault.{wipes, FaultKept, WipesNot, FirstFaultKept, FlagNeeded, EachWipes}
+use Rattle.theorems_runs.specs.Hold.{cpuViolation}
 use Rattle.theorems_runs.specs.Reported.{faulted}
+use Rattle.theorems_runs.specs.SegmentNumbers.{warning, storesFault, storesFetch, StoredBy}
 use Rattle.theorems_runs.specs.Sequences.{_⇒_, Every, Along}
 use Rattle.theorems_runs.proofs.Bits.{has-or, has-and, lacks-or, lacks-and}
 use Rattle.theorems_runs.proofs.Computed.{computed}
 use Rattle.theorems_runs.proofs.Examples.{unit}
+use Rattle.theorems_runs.proofs.SegmentNumbers.{old, stored-exactly}
 use Rattle.theorems_runs.proofs.Tests.{every-both}
 use Rattle.theorems_runs.proofs.Ways.{Became, stayed, controls, empties, clears, restarts, quiets, resumes, begins}
 use Rattle.theorems_runs.proofs.Ways.{records, by-row, made}
@@ -57,24 +59,11 @@ low-bit m e (suc (suc (suc (suc (suc (suc k)))))) h = absurd (omega arith)
 and-kept : (v m : ℕ) → m % 64 ≡ 63 → Kept v (bitAnd v m)
 and-kept v m f = by-bit v (bitAnd v m) λ k h e. has-and k v m ∙ rw (e, low-bit m f k h)
 
--- the flags kept, and all else of the fault and of the fetch as it was
-kept-by : {r s : Registers} → Kept (r .faults .vtr) (s .faults .vtr) → withVtr s (r .faults .vtr) .faults ≡ r .faults
-    → s .fetched ≡ r .fetched → FaultKept r s
-kept-by flags same fetched =
-    record {
-      flags = flags;
-      vsn = ap (λ (f : Faults). f .vsn) same;
-      voff = ap (λ (f : Faults). f .voff) same;
-      bcsr = ap (λ (f : Faults). f .bcsr) same;
-      isn = ap (λ (f : Fetched). f .isn) fetched;
-      ioff = ap (λ (f : Fetched). f .ioff) fetched;
-    }
-
 all-kept : (v : ℕ) → Kept v v
 all-kept v = (λ e. e, (λ e. e, (λ e. e, (λ e. e, (λ e. e, (λ e. e, refl))))))
 
 kept-refl : (r : Registers) → FaultKept r r
-kept-refl r = kept-by (all-kept (r .faults .vtr)) refl refl
+kept-refl r = record { flags = all-kept (r .faults .vtr); vsn = refl; voff = refl; bcsr = refl; isn = refl; ioff = refl }
 
 kept-then : {r s t : Registers} → FaultKept r s → FaultKept s t → FaultKept r t
 kept-then {r} {s} {t} a b =
@@ -90,62 +79,55 @@ kept-then {r} {s} {t} a b =
       ioff = b .ioff ∙ a .ioff;
     }
 
--- a primary flag still stands, and the fault is kept
+-- The flags: a primary flag still stands, and each that stood
+
 abbrev Stands : Registers → Registers → Type 0
-Stands r s = faulted s × FaultKept r s
-
-recorded-stands : (r q : Registers) (c : Cycle) (event : ℕ) → faulted q → FaultKept r q → Stands r (recorded q c event)
-unfolding firstEntry added raised
-recorded-stands r q c event p k =
-    by-row (Stands r) q c event (p, k) (λ n t. absurd (true≢false (sym t ∙ p)))
-    (λ t. (
-      lacks-or (q .faults .vtr) event ∙ rw p,
-      kept-then k (kept-by (or-kept (q .faults .vtr) event) refl refl),
-    ))
-    (λ flag t. (
-      lacks-or (q .faults .vtr) flag ∙ rw p,
-      kept-then k (kept-by (or-kept (q .faults .vtr) flag) refl refl),
-    ))
-
-noted-stands : (r q : Registers) (c : Cycle) (stores holds : Bool) → stores ≡ false → Stands r q → Stands r (noted q stores holds c)
-unfolding noted
-noted-stands r q c true holds e h = absurd (true≢false e)
-noted-stands r q c false holds e h =
-    (h .0, kept-then (h .1) (kept-by (all-kept (q .faults .vtr)) refl refl))
-
-begun-kept : (r : Registers) (starts : Bool) → FaultKept r (begun r starts)
-unfolding begun
-begun-kept r starts =
-    kept-by (all-kept (r .faults .vtr)) refl refl
-
-begun-faulted : (r : Registers) (starts : Bool) → faulted r → faulted (begun r starts)
-unfolding begun
-begun-faulted r starts p = p
+Stands r s = faulted s × Kept (r .faults .vtr) (s .faults .vtr)
 
 became-stands : {back wiped : Bool} {c : Cycle} {r s : Registers} → Became back wiped c r s → wiped ≡ false → faulted r → Stands r s
-unfolding quieted resumed
-became-stands {r} stayed e p = (p, kept-refl r)
-became-stands {r} (controls k f) e p = (p, kept-by (all-kept (r .faults .vtr)) refl refl)
+unfolding quieted resumed begun noted firstEntry added raised
+became-stands {r} stayed e p = (p, all-kept (r .faults .vtr))
+became-stands {r} (controls k f) e p = (p, all-kept (r .faults .vtr))
 became-stands (empties w) e p = absurd (true≢false (sym w ∙ e))
-became-stands {r} (clears flag f) e p = (
-  lacks-and (r .faults .vtr) (255 - flag) f ∙ p,
-  kept-by (and-kept (r .faults .vtr) (255 - flag) f) refl refl,
-)
+became-stands {r} (clears flag f) e p =
+    (lacks-and (r .faults .vtr) (255 - flag) f ∙ p, and-kept (r .faults .vtr) (255 - flag) f)
 became-stands (restarts mr f w) e p = absurd (true≢false (sym w ∙ e))
-became-stands {r} (quiets f) e p = (p, kept-by (all-kept (r .faults .vtr)) refl refl)
-became-stands {r} resumes e p = (p, kept-by (all-kept (r .faults .vtr)) refl refl)
-became-stands {r} (begins starts) e p = (begun-faulted r starts p, begun-kept r starts)
+became-stands {r} (quiets f) e p = (p, all-kept (r .faults .vtr))
+became-stands {r} resumes e p = (p, all-kept (r .faults .vtr))
+became-stands {r} (begins starts) e p = (p, all-kept (r .faults .vtr))
 became-stands {c} {r} (records starts event small stores holds w) e p =
-    noted-stands r _ c stores holds (go stores w)
-    (recorded-stands r (begun r starts) c event (begun-faulted r starts p) (begun-kept r starts))
-  where
-    go : (t : Bool) → (t ≡ true → eqb (r .faults .vtr) 0 ≡ true) → t ≡ false
-    go true w = absurd (true≢false (sym (ap (λ (v : ℕ). lacks v PRIMARY) (eqb-true (r .faults .vtr) 0 (w refl))) ∙ p))
-    go false w = refl
+    by-row (Stands r) (begun r starts) c event (p, all-kept (r .faults .vtr)) (λ n t. absurd (true≢false (sym t ∙ p)))
+    (λ t. (lacks-or (r .faults .vtr) event ∙ rw p, or-kept (r .faults .vtr) event))
+    (λ flag t. (lacks-or (r .faults .vtr) flag ∙ rw p, or-kept (r .faults .vtr) flag))
 
-stands-after : (u : Unit) (c : Cycle) → faulted (u .registers) → wipes u c ≡ false → Stands (u .registers) (stepped u c .unit .registers)
-unfolding after
-stands-after u c p e = became-stands (made u c .became) e p
+-- The addresses: no cycle stores them
+
+module _ (u : Unit) (c : Cycle) (p : faulted (u .registers)) where
+  no-fault : storesFault u c ≡ false
+  no-fault = ap (λ (t : Bool). (cpuViolation u c || warning u c) && t) p ∙ and-false (cpuViolation u c || warning u c)
+
+  no-fetch : storesFetch u c ≡ false
+  no-fetch = go (eqb (u .registers .faults .vtr) 0) refl
+    where
+      go : (t : Bool) → eqb (u .registers .faults .vtr) 0 ≡ t → (fetches c && translated u c && not (breaks (segmentOf u c) c) && t) ≡ false
+      go true e = absurd (true≢false (sym (ap (λ (v : ℕ). lacks v PRIMARY) (eqb-true (u .registers .faults .vtr) 0 e)) ∙ p))
+      go false e = and-false (fetches c && translated u c && not (breaks (segmentOf u c) c))
+
+  stands-after : wipes u c ≡ false → faulted (stepped u c .unit .registers) × FaultKept (u .registers) (stepped u c .unit .registers)
+  unfolding after
+  stands-after e =
+      let flags : Stands (u .registers) (stepped u c .unit .registers) = became-stands (made u c .became) e p in
+      let s : StoredBy u c (stepped u c .unit .registers) = stored-exactly u c in (
+        flags .0,
+        record {
+          flags = flags .1;
+          vsn = s .vsn ∙ old _ _ _ no-fault;
+          voff = s .voff ∙ old _ _ _ no-fault;
+          bcsr = s .bcsr ∙ old _ _ _ no-fault;
+          isn = s .isn ∙ old _ _ _ no-fetch;
+          ioff = s .ioff ∙ old _ _ _ no-fetch;
+        },
+      )
 
 pub first-fault-kept : FirstFaultKept
 unfolding units Along
@@ -155,7 +137,7 @@ first-fault-kept u cs p q = go (u .registers) cs u p (kept-refl (u .registers)) 
         → Every (λ v. FaultKept r (v .registers)) (units v cs)
     go r [] v p k q = refl
     go r (c ∷ cs) v p k q =
-        let s : Stands (v .registers) (stepped v c .unit .registers) = stands-after v c p (q .0) in
+        let s : _ = stands-after v c p (q .0) in
         (kept-then k (s .1), go r cs (stepped v c .unit) (s .0) (kept-then k (s .1)) (q .1))
 
 -- a normal write at segment 1, which is open to system mode alone, stores VSN 1

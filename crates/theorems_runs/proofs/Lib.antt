@@ -20,8 +20,8 @@ pub mod Hold
 pub mod Trap
 pub mod Notes
 pub mod Reported
+pub mod SegmentNumbers
 pub mod FirstFault
-pub mod Numbers
 pub mod Wider
 pub mod Descriptors
 pub mod Dma

@@ -8,8 +8,8 @@ pub mod Answers
 pub mod Hold
 pub mod Descriptors
 pub mod Reported
+pub mod SegmentNumbers
 pub mod FirstFault
-pub mod Numbers
 pub mod Dma
 pub mod Trap
 pub mod Notes

@@ -14,7 +14,7 @@ use Rattle.rules.specs.declared.Registers.{Registers}
 use Rattle.rules.specs.declared.Unit.{Unit}
 use Rattle.theorems_runs.specs.Sequences.{Every}
 
--- the ranges of "What the unit is given, what it keeps" that 2 holds registers to
+-- the ranges of "What the unit is given, what it keeps" that 2 holds registers to; ticket 2: VSN and ISN up to 127
 pub record Bounded (r : Registers) : Type 0 where
   pub sar : r .control .sar ≤ 63
   pub vsn : r .faults .vsn ≤ 127

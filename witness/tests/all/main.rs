@@ -3,6 +3,7 @@
 mod exchange;
 mod generated;
 mod others;
+mod pairs;
 mod refusals;
 mod rows;
 mod sample;

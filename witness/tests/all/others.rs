@@ -2,28 +2,14 @@
 //! but descriptors outside a set. Cycles that keep the ticket's conditions show
 //! no difference; where one condition is broken and no other, some cycle does.
 
-use witness::commands::code::{
-    BASE, CLEAR_VTR, MR, RESET, SET_CPUI, SET_DMAI, VTR, WHOLE_STEPPING,
-};
+use witness::commands::code::{BASE, RESET, SET_CPUI, SET_DMAI, WHOLE_STEPPING};
 use witness::cycle::{Answer, Cycle, Kind};
 use witness::generate::random::Random;
-use witness::generate::steps::undamaged;
-use witness::step::Step;
 use witness::text::Text;
-use witness::unit::{attribute, mode, violation, Descriptor, Unit};
+use witness::unit::{violation, Descriptor, Unit};
 use witness::Document01;
 
-const PAIRS: usize = 10_000;
-const CYCLES: usize = 60;
-
-/// Document 01's sentence of translation, of a memory cycle that is not
-/// refused. Whether it is an aborted fetch makes no difference here.
-fn translates(unit: &Unit, cycle: &Cycle) -> bool {
-    let [nms, mst, urs, trns, msen] = [3, 4, 5, 6, 7].map(|bit| unit.mr >> bit & 1 == 1);
-    let memory = matches!(cycle.status, 0x8..=0xD) && cycle.segment <= 127 && !cycle.reset;
-    let upper = cycle.segment >= 64;
-    memory && msen && trns && urs == upper && (!mst || nms == cycle.normal)
-}
+use crate::pairs::{busy, every_turn, is, obeys, translates, Pair, Turn, Wanted, CYCLES, PAIRS};
 
 fn aborted(unit: &Unit, cycle: &Cycle) -> bool {
     unit.awaits && cycle.status == 0xD && cycle.read && !cycle.dma
@@ -34,160 +20,6 @@ fn takes_descriptor(cycle: &Cycle) -> bool {
     let obeyed = !cycle.reset && !cycle.dma && cycle.select && cycle.segment <= 127;
     obeyed && cycle.status == 0x3 && matches!(cycle.offset, BASE..=WHOLE_STEPPING)
 }
-
-/// Two units, and a set of descriptor numbers.
-pub struct Pair {
-    inside: Vec<u8>,
-    pub units: [Unit; 2],
-}
-
-/// One cycle in both units, with the first as it was before.
-pub struct Turn {
-    pub before: Unit,
-    pub cycle: Cycle,
-    pub answers: [Answer; 2],
-}
-
-impl Pair {
-    /// Units that are equal but for descriptors outside a set, which is often
-    /// empty or full or nearly so.
-    fn new(random: &mut Random) -> Pair {
-        let odds = random.pick(&[0, 1, 8, 32, 56, 63, 64]);
-        let inside: Vec<u8> = (0..64).filter(|_| random.below(64) < odds).collect();
-        let unit = busy(random);
-        let mut twin = Unit {
-            table: busy(random).table,
-            ..unit.clone()
-        };
-        for &number in &inside {
-            twin.table[usize::from(number)] = unit.table[usize::from(number)];
-        }
-        let units = [unit, twin];
-        Pair { inside, units }
-    }
-
-    fn has(&self, segment: u8) -> bool {
-        self.inside.contains(&(segment % 64))
-    }
-
-    fn translates(&self, cycle: &Cycle) -> bool {
-        self.units.iter().any(|unit| translates(unit, cycle))
-    }
-
-    fn looks_inside(&self, cycle: &Cycle) -> bool {
-        self.has(cycle.segment) || !self.translates(cycle)
-    }
-
-    /// Equal in all but the descriptors outside.
-    fn alike(&self) -> bool {
-        let [unit, twin] = &self.units;
-        let mut table = unit.table;
-        for &number in &self.inside {
-            table[usize::from(number)] = twin.table[usize::from(number)];
-        }
-        let mended = Unit {
-            table,
-            ..twin.clone()
-        };
-        mended == *unit
-    }
-
-    /// Any cycle. The data byte is drawn for MR, and any other code takes it.
-    fn any(&self, random: &mut Random) -> Cycle {
-        let status = match random.below(16) {
-            0 => random.byte(),
-            1 => random.byte() % 16,
-            2 => 0x4,
-            3..=6 => 0x3,
-            7..=9 => 0xD,
-            _ => random.pick(&[0x8, 0x9, 0x9, 0x9, 0xA, 0xB, 0xC, 0xD]),
-        };
-        Cycle {
-            status,
-            read: random.coin(),
-            normal: random.coin(),
-            dma: random.once_in(5),
-            select: !random.once_in(4),
-            segment: self.segment(random),
-            offset: match status {
-                0x3 => code(random),
-                _ => small(random),
-            },
-            data: translating(random),
-            reset: random.once_in(200),
-        }
-    }
-
-    /// Any segment, but mostly one inside and in the unit's range.
-    fn segment(&self, random: &mut Random) -> u8 {
-        let number = match random.below(4) {
-            1.. if !self.inside.is_empty() => random.pick(&self.inside),
-            _ => random.byte() % 64,
-        };
-        let range = if self.units[0].mode(mode::URS) { 64 } else { 0 };
-        match random.below(32) {
-            0 => number | random.byte() | 0x80,
-            1..=8 => number | random.byte() & 0x40,
-            _ => number | range,
-        }
-    }
-
-    /// Steps both units with any cycle that the rule allows.
-    fn turn(&mut self, random: &mut Random, rule: &impl Fn(&Pair, &Cycle) -> bool) -> Turn {
-        let mut cycle = self.any(random);
-        while !rule(self, &cycle) {
-            cycle = self.any(random);
-        }
-        let before = self.units[0].clone();
-        let step = |unit| Document01::step(unit, &cycle);
-        let answers = self.units.each_mut().map(step);
-        Turn {
-            before,
-            cycle,
-            answers,
-        }
-    }
-}
-
-/// Any undamaged unit, but one that mostly translates, often without a
-/// violation: few flags but DIRW, and limits that offsets often meet.
-fn busy(random: &mut Random) -> Unit {
-    let mut unit = undamaged(random);
-    unit.mr = translating(random);
-    unit.vtr &= random.pick(&[0, 0xFF]);
-    for descriptor in &mut unit.table {
-        descriptor.attributes &= random.byte() & random.byte() | attribute::DIRW;
-        descriptor.limit = small(random);
-    }
-    unit
-}
-
-/// A mode register with MSEN and TRNS set, or any.
-fn translating(random: &mut Random) -> u8 {
-    match random.below(8) {
-        0 => random.byte(),
-        _ => random.byte() | mode::MSEN | mode::TRNS,
-    }
-}
-
-/// Any byte, but mostly 0 or 1.
-fn small(random: &mut Random) -> u8 {
-    random.byte() & random.pick(&[0x01, 0x01, 0xFF])
-}
-
-/// Any code. MR often, since a reset leaves no unit translating, clear VTR,
-/// since some things are recorded only after it, and registers that show them.
-fn code(random: &mut Random) -> u8 {
-    match random.below(9) {
-        0 | 1 => MR,
-        2 | 3 => CLEAR_VTR,
-        4 => random.byte(),
-        5 => VTR + random.byte() % 6,
-        _ => random.byte() % 0x24,
-    }
-}
-
-pub type Wanted = (&'static str, fn(&Pair, &Turn) -> bool);
 
 /// What runs must meet often, or they would say nothing. A pair is as it stands
 /// after the cycle.
@@ -247,14 +79,6 @@ const DESCRIPTOR_BYTES: &[Wanted] = &[
     }),
 ];
 
-pub fn is(turn: &Turn, kind: Kind) -> bool {
-    turn.answers[0].kind == kind
-}
-
-pub fn obeys(turn: &Turn, code: u8) -> bool {
-    is(turn, Kind::Command) && turn.cycle.offset == code
-}
-
 fn sets(pair: &Pair, turn: &Turn, flag: u8) -> bool {
     pair.units[0].vtr & !turn.before.vtr & flag != 0
 }
@@ -263,31 +87,6 @@ fn sets(pair: &Pair, turn: &Turn, flag: u8) -> bool {
 fn nothing_shows(rule: fn(&Pair, &Cycle) -> bool, wanted: &[Wanted]) {
     let law = |pair: &Pair, turn: &Turn| turn.answers[0] == turn.answers[1] && pair.alike();
     every_turn(rule, law, wanted);
-}
-
-/// Every cycle that the rule allows keeps the law, and what is wanted comes
-/// some hundred times.
-pub fn every_turn(
-    rule: fn(&Pair, &Cycle) -> bool,
-    law: fn(&Pair, &Turn) -> bool,
-    wanted: &[Wanted],
-) {
-    let mut random = Random::new(12, 0);
-    let mut counts = vec![0; wanted.len()];
-    for number in 0..PAIRS {
-        let mut pair = Pair::new(&mut random);
-        for _ in 0..CYCLES {
-            let turn = pair.turn(&mut random, &rule);
-            let Turn { cycle, answers, .. } = turn;
-            assert!(law(&pair, &turn), "pair {number}: {cycle:?}, {answers:?}");
-            for (count, (_, meets)) in counts.iter_mut().zip(wanted) {
-                *count += usize::from(meets(&pair, &turn));
-            }
-        }
-    }
-    for (count, (name, _)) in counts.iter().zip(wanted) {
-        assert!(*count >= 200, "only {count}: {name}");
-    }
 }
 
 /// The first cycle that the units of a pair answer in two ways. Each pair is

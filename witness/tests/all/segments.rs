@@ -5,7 +5,7 @@ use witness::commands::code::{CLEAR_VTR, ISN, MR, RESET, VSN};
 use witness::cycle::{Cycle, Kind};
 use witness::unit::{attribute, mode, violation, Unit};
 
-use crate::others::{every_turn, is, obeys, Pair, Turn, Wanted};
+use crate::pairs::{every_turn, is, obeys, Pair, Turn, Wanted};
 use crate::refusals::command;
 use crate::rows::{acknowledge, read, step, unit, write, TRANSLATES};
 

@@ -1,7 +1,7 @@
 -- Ticket 2: the segment number that VSN and ISN keep, which cycle stores it, and the half of the segments that its bit 6 tells.
 -- Assumes nothing.
 use mathlib.Core.Path.{_≡_}
-use mathlib.Core.Bool.{Bool, true, cond, not, _&&_, _||_}
+use mathlib.Core.Bool.{Bool, true, false, cond, not, _&&_, _||_}
 use mathlib.Core.List.{List}
 use Prim.Native.Nat.{ℕ}
 use lib.Dec.{eqb}
@@ -35,7 +35,7 @@ storesFault u c = (cpuViolation u c || warning u c) && lacks (u .registers .faul
 abbrev pub storesFetch : Unit → Cycle → Bool
 storesFetch u c = fetches c && translated u c && not (breaks (segmentOf u c) c) && eqb (u .registers .faults .vtr) 0
 
--- the registers of r after a cycle, from those of the unit before it: "VSN and ISN keep all seven bits", so the segment as it stands
+-- the five registers after a cycle, r, from those of the unit before it: "VSN and ISN keep all seven bits", so the segment as it stands
 pub record StoredBy (u : Unit) (c : Cycle) (r : Registers) : Type 0 where
   pub vsn : r .faults .vsn ≡ cond (storesFault u c) (c .segment) (u .registers .faults .vsn)
   pub voff : r .faults .voff ≡ cond (storesFault u c) (c .offset) (u .registers .faults .voff)
@@ -48,30 +48,23 @@ pub record StoredBy (u : Unit) (c : Cycle) (r : Registers) : Type 0 where
 abbrev pub StoredExactly : Type 0
 StoredExactly = (u : Unit) (c : Cycle) → StoredBy u c (stepped u c .unit .registers)
 
--- The half that a number tells
+-- What a command reads
 
 -- a register that keeps a segment number: the command that reads it, the register, the cycles that store it
-pub record Number : Type 0 where
+pub record SegmentNumber : Type 0 where
   pub code : ℕ
   pub kept : Unit → ℕ
   pub stores : Unit → Cycle → Bool
 
-abbrev pub vsn : Number
+abbrev pub vsn : SegmentNumber
 vsn = record { code = 0x03; kept = λ u. u .registers .faults .vsn; stores = storesFault }
 
-abbrev pub isn : Number
+abbrev pub isn : SegmentNumber
 isn = record { code = 0x06; kept = λ u. u .registers .fetched .isn; stores = storesFetch }
 
 -- of VSN and of ISN
-abbrev pub OfBoth : (Number → Type 0) → Type 0
+abbrev pub OfBoth : (SegmentNumber → Type 0) → Type 0
 OfBoth Claim = Claim vsn × Claim isn
-
--- "URS must equal segment bit 6": bit 6 of a number, and URS of a unit
-abbrev pub upper : ℕ → Bool
-upper n = has n UPPER
-
-abbrev pub urs : Unit → Bool
-urs u = has (u .registers .control .mr) URS
 
 -- a selected CPU read of a code, refused neither by 2 nor by 1
 abbrev pub reads : (code : ℕ) → Unit → Cycle → Bool
@@ -83,30 +76,52 @@ ReadShows =
     OfBoth λ n. (u : Unit) (c : Cycle) → reads (n .code) u c ≡ true
     → (stepped u c .answer .drives ≡ true) × (stepped u c .answer .byte ≡ n .kept u)
 
+-- each read of a number in a run drives a byte as said of it and of the unit that is read
+abbrev pub Reads : (Shows : Unit → (byte : ℕ) → Type 0) → SegmentNumber → Unit → List Cycle → Type 0
+Reads Shows n = Along (λ v d. reads (n .code) v d ≡ true → Shows v (stepped v d .answer .byte))
+
+-- the same after a cycle c that has stored the number, where the cycles after it may come
+abbrev pub ReadsAfter : (May : Unit → Cycle → Type 0) → (Shows : Unit → (byte : ℕ) → Type 0) → SegmentNumber → Unit → Cycle → Type 0
+ReadsAfter May Shows n u c =
+    (cs : List Cycle) → n .stores u c ≡ true → Along May (stepped u c .unit) cs → Reads Shows n (stepped u c .unit) cs
+
+-- CLAIM: up to the next cycle that stores it, each read drives the segment of the cycle that did, whatever becomes of MR: "the number that the
+-- program used".
+abbrev pub NumberLasts : Type 0
+NumberLasts = OfBoth λ n. (u : Unit) (c : Cycle) → ReadsAfter (λ v d. n .stores v d ≡ false) (λ v byte. byte ≡ c .segment) n u c
+
+-- The half that it tells
+
+-- "URS must equal segment bit 6": bit 6 of a number, and URS of a unit
+abbrev pub upper : ℕ → Bool
+upper n = has n UPPER
+
+abbrev pub urs : Unit → Bool
+urs u = has (u .registers .control .mr) URS
+
 -- CLAIM: the cycle that stores a number leaves it with the unit's URS in bit 6.
 abbrev pub HalfStored : Type 0
 HalfStored = OfBoth λ n. (u : Unit) (c : Cycle) → n .stores u c ≡ true → upper (n .kept (stepped u c .unit)) ≡ urs u
 
--- a number that was stored, and cycles after it that may come: each read among them drives a byte with the unit's URS in bit 6
-abbrev pub HalfReadWhere : (May : (stored : Bool) → Unit → Cycle → Type 0) → Number → Type 0
-HalfReadWhere May n =
-    (u : Unit) (c : Cycle) (cs : List Cycle) → n .stores u c ≡ true → Along (May (urs u)) (stepped u c .unit) cs
-    → Along (λ v d. reads (n .code) v d ≡ true → upper (stepped v d .answer .byte) ≡ urs v) (stepped u c .unit) cs
+-- the byte has the unit's URS in bit 6
+abbrev pub TellsUrs : Unit → (byte : ℕ) → Type 0
+TellsUrs v byte = upper byte ≡ urs v
 
--- URS is as it was when the number was stored
-abbrev pub UrsStays : (stored : Bool) → Unit → Cycle → Type 0
-UrsStays stored v d = urs v ≡ stored
-
--- CLAIM: so while URS stays, what a command reads of VSN and of ISN has it in bit 6. All other bits of MR may change, and all cycles may come.
+-- CLAIM: once a cycle has stored it, and while URS stays, each read drives a byte with URS in bit 6. The other bits of MR may change, and the
+-- number may be stored anew.
 abbrev pub HalfRead : Type 0
-HalfRead = OfBoth (HalfReadWhere UrsStays)
+HalfRead = OfBoth λ n. (u : Unit) (c : Cycle) → ReadsAfter (λ v d. urs v ≡ urs u) TellsUrs n u c
 
--- CLAIM: not where MR is rewritten with another URS: the number tells the half of the cycle that stored it.
+-- CLAIM: not where MR is rewritten with another URS.
 abbrev pub UrsNeeded : Type 0
-UrsNeeded = OfBoth λ n. HalfReadWhere (λ stored v d. true ≡ true) n → ⊥
+UrsNeeded = OfBoth λ n. ((u : Unit) (c : Cycle) → ReadsAfter (λ v d. true ≡ true) TellsUrs n u c) → ⊥
 
--- CLAIM: two units, two halves: numbers that units with different URS store are different.
+-- CLAIM: nor where no cycle has stored it yet.
+abbrev pub StoredNeeded : Type 0
+StoredNeeded = OfBoth λ n. ((u : Unit) (cs : List Cycle) → Along (λ v d. urs v ≡ urs u) u cs → Reads TellsUrs n u cs) → ⊥
+
+-- CLAIM: two units, two halves: a number that one stores, VSN or ISN, is not one that the other stores, where their URS differs.
 abbrev pub HalvesApart : Type 0
 HalvesApart =
-    OfBoth λ n. (u v : Unit) (c d : Cycle) → urs u ≡ not (urs v) → n .stores u c ≡ true → n .stores v d ≡ true
-    → n .kept (stepped u c .unit) ≡ n .kept (stepped v d .unit) → ⊥
+    OfBoth λ n. OfBoth λ m. (u v : Unit) (c d : Cycle) → urs u ≡ not (urs v) → n .stores u c ≡ true → m .stores v d ≡ true
+    → n .kept (stepped u c .unit) ≡ m .kept (stepped v d .unit) → ⊥

@@ -1,6 +1,6 @@
 -- Which cycle stores VSN, VOFF and BCSR, or ISN and IOFF, and what bit 6 of VSN and ISN tells.
 -- Assumes nothing.
-use mathlib.Core.Path.{_≡_, refl, sym, _∙_, ap}
+use mathlib.Core.Path.{_≡_, refl, sym, _∙_, ap, subst}
 use mathlib.Core.Bool.{Bool, true, false, cond, not, _&&_, _||_, Bool·beq, true≢false, false≢true}
 use mathlib.Core.List.{List, [], _∷_}
 use Prim.Native.Nat.{ℕ, _≤_}
@@ -14,9 +14,10 @@ use Rattle.rules.specs.Codes.{commandOf}
 use Rattle.rules.specs.Commands.{replied, executed}
 use Rattle.rules.specs.Flags.{has, lacks, with, flagIf}
 use Rattle.rules.specs.Masks.{SYS, DIRW, SLV, PRIMARY, TRNS, MSEN}
-use Rattle.rules.specs.PowerOn.{blank}
+use Rattle.rules.specs.PowerOn.{blank, powerOn}
 use Rattle.rules.specs.Recording.{busStatus, eventBy, eventOf}
 use Rattle.rules.specs.Refusals.{damaged, outOfRange}
+use Rattle.rules.specs.Runs.{final}
 use Rattle.rules.specs.Seen.{segment, cycle, command}
 use Rattle.rules.specs.Step.{decision, after, place, stepped}
 use Rattle.rules.specs.declared.Answer.{Answer}
@@ -28,8 +29,9 @@ use Rattle.rules.specs.declared.Unit.{Unit}
 use Rattle.theorems_runs.specs.Answers.{awaited, segmentOf, breaks, translated, violation}
 use Rattle.theorems_runs.specs.Cycles.{selectedCommand, memoryCycle, fetches, translationConditions}
 use Rattle.theorems_runs.specs.Hold.{cpuViolation}
-use Rattle.theorems_runs.specs.Numbers.{warning, storesFault, storesFetch, StoredExactly, Number, vsn, isn, upper, urs, reads}
-use Rattle.theorems_runs.specs.Numbers.{ReadShows, HalfStored, HalfReadWhere, UrsStays, HalfRead, UrsNeeded, HalvesApart}
+use Rattle.theorems_runs.specs.SegmentNumbers.{warning, storesFault, storesFetch, StoredExactly, SegmentNumber, vsn, isn, reads, upper, urs}
+use Rattle.theorems_runs.specs.SegmentNumbers.{Reads, ReadsAfter, TellsUrs, ReadShows, NumberLasts, HalfStored, HalfRead}
+use Rattle.theorems_runs.specs.SegmentNumbers.{UrsNeeded, StoredNeeded, HalvesApart}
 use Rattle.theorems_runs.specs.Refusal.{admitted}
 use Rattle.theorems_runs.specs.Sequences.{Along}
 use Rattle.theorems_runs.proofs.Answers.{fails, breaks-exactly, memory-place, where-true}
@@ -194,7 +196,7 @@ read-shows = (
 new : (stores : Bool) (x y : ℕ) → stores ≡ true → cond stores x y ≡ x
 new stores x y e = ap (λ (t : Bool). cond t x y) e
 
-old : (stores : Bool) (x y : ℕ) → stores ≡ false → cond stores x y ≡ y
+pub old : (stores : Bool) (x y : ℕ) → stores ≡ false → cond stores x y ≡ y
 old stores x y e = ap (λ (t : Bool). cond t x y) e
 
 pub half-stored : HalfStored
@@ -203,53 +205,81 @@ half-stored = (
   λ u c e. ap upper (stored-exactly u c .isn ∙ new _ _ _ e) ∙ half u c (fetch-translated u c e),
 )
 
--- what carries the claims about later cycles: a number stays where it is not stored, is stored with URS, and is shown
-record Lawful (n : Number) : Type 0 where
+-- what carries the claims about later cycles: where a number is stored, what it is and that it tells URS; where not, that it stays; its read
+record Lawful (n : SegmentNumber) : Type 0 where
+  stored : (u : Unit) (c : Cycle) → n .stores u c ≡ true → n .kept (stepped u c .unit) ≡ c .segment
   stays : (u : Unit) (c : Cycle) → n .stores u c ≡ false → n .kept (stepped u c .unit) ≡ n .kept u
   halves : (u : Unit) (c : Cycle) → n .stores u c ≡ true → upper (n .kept (stepped u c .unit)) ≡ urs u
   shows : (u : Unit) (c : Cycle) → reads (n .code) u c ≡ true → stepped u c .answer .byte ≡ n .kept u
 
 vsn-lawful : Lawful vsn
 vsn-lawful =
-    record { stays = λ u c e. stored-exactly u c .vsn ∙ old _ _ _ e; halves = half-stored .0; shows = λ u c e. read-shows .0 u c e .1 }
+    record {
+      stored = λ u c e. stored-exactly u c .vsn ∙ new _ _ _ e;
+      stays = λ u c e. stored-exactly u c .vsn ∙ old _ _ _ e;
+      halves = half-stored .0;
+      shows = λ u c e. read-shows .0 u c e .1;
+    }
 
 isn-lawful : Lawful isn
 isn-lawful =
-    record { stays = λ u c e. stored-exactly u c .isn ∙ old _ _ _ e; halves = half-stored .1; shows = λ u c e. read-shows .1 u c e .1 }
+    record {
+      stored = λ u c e. stored-exactly u c .isn ∙ new _ _ _ e;
+      stays = λ u c e. stored-exactly u c .isn ∙ old _ _ _ e;
+      halves = half-stored .1;
+      shows = λ u c e. read-shows .1 u c e .1;
+    }
 
-module _ (n : Number) (l : Lawful n) where
-  tells-on : (b : Bool) (u : Unit) (c : Cycle) → urs u ≡ b → upper (n .kept u) ≡ b → upper (n .kept (stepped u c .unit)) ≡ b
-  tells-on b u c q p = go (n .stores u c) refl
-    where
-      go : (t : Bool) → n .stores u c ≡ t → upper (n .kept (stepped u c .unit)) ≡ b
-      go true e = l .halves u c e ∙ q
-      go false e = ap upper (l .stays u c e) ∙ p
-
-  tells-along : (b : Bool) (cs : List Cycle) (v : Unit) → upper (n .kept v) ≡ b → Along (UrsStays b) v cs
-      → Along (λ v d. reads (n .code) v d ≡ true → upper (stepped v d .answer .byte) ≡ urs v) v cs
+module _ (n : SegmentNumber) (l : Lawful n) where
+  -- a fact of the number that each cycle keeps is shown by each read
+  shows-on : (May : Unit → Cycle → Type 0) (P : ℕ → Type 0) (Shows : Unit → (byte : ℕ) → Type 0)
+      → ((v : Unit) (d : Cycle) → May v d → P (n .kept v) → P (n .kept (stepped v d .unit)))
+      → ((v : Unit) (d : Cycle) → May v d → P (n .kept v) → Shows v (n .kept v))
+      → (cs : List Cycle) (v : Unit) → P (n .kept v) → Along May v cs → Reads Shows n v cs
   unfolding Along
-  tells-along b [] v p q = refl
-  tells-along b (d ∷ cs) v p q =
-      (λ e. ap upper (l .shows v d e) ∙ p ∙ sym (q .0), tells-along b cs (stepped v d .unit) (tells-on b v d (q .0) p) (q .1))
+  shows-on May P Shows step show [] v p q = refl
+  shows-on May P Shows step show (d ∷ cs) v p q = (
+    λ e. subst (Shows v) (sym (l .shows v d e)) (show v d (q .0) p),
+    shows-on May P Shows step show cs (stepped v d .unit) (step v d (q .0) p) (q .1),
+  )
 
-  half-told : HalfReadWhere UrsStays n
-  half-told u c cs e q = tells-along (urs u) cs (stepped u c .unit) (l .halves u c e) q
+  lasts : (u : Unit) (c : Cycle) → ReadsAfter (λ v d. n .stores v d ≡ false) (λ v byte. byte ≡ c .segment) n u c
+  lasts u c cs e q =
+      shows-on (λ v d. n .stores v d ≡ false) (λ k. k ≡ c .segment) (λ v byte. byte ≡ c .segment) (λ v d f p. l .stays v d f ∙ p)
+      (λ v d f p. p) cs (stepped u c .unit) (l .stored u c e) q
 
-  half-apart : (u v : Unit) (c d : Cycle) → urs u ≡ not (urs v) → n .stores u c ≡ true → n .stores v d ≡ true
-      → n .kept (stepped u c .unit) ≡ n .kept (stepped v d .unit) → ⊥
-  half-apart u v c d t e f q = no-other (urs v) (sym (l .halves v d f) ∙ sym (ap upper q) ∙ l .halves u c e ∙ t)
+  tells : (u : Unit) (c : Cycle) → ReadsAfter (λ v d. urs v ≡ urs u) TellsUrs n u c
+  tells u c cs e q =
+      shows-on (λ v d. urs v ≡ urs u) (λ k. upper k ≡ urs u) TellsUrs step (λ v d f p. p ∙ sym f) cs (stepped u c .unit) (l .halves u c e) q
+    where
+      step : (v : Unit) (d : Cycle) → urs v ≡ urs u → upper (n .kept v) ≡ urs u → upper (n .kept (stepped v d .unit)) ≡ urs u
+      step v d f p = go (n .stores v d) refl
+        where
+          go : (t : Bool) → n .stores v d ≡ t → upper (n .kept (stepped v d .unit)) ≡ urs u
+          go true e = l .halves v d e ∙ f
+          go false e = ap upper (l .stays v d e) ∙ p
+
+  apart : (m : SegmentNumber) → Lawful m → (u v : Unit) (c d : Cycle) → urs u ≡ not (urs v) → n .stores u c ≡ true → m .stores v d ≡ true
+      → n .kept (stepped u c .unit) ≡ m .kept (stepped v d .unit) → ⊥
+  apart m k u v c d t e f q = no-other (urs v) (sym (k .halves v d f) ∙ sym (ap upper q) ∙ l .halves u c e ∙ t)
     where
       no-other : (t : Bool) → t ≡ not t → ⊥
       no-other true e = true≢false e
       no-other false e = false≢true e
 
+pub number-lasts : NumberLasts
+number-lasts = (lasts vsn vsn-lawful, lasts isn isn-lawful)
+
 pub half-read : HalfRead
-half-read = (half-told vsn vsn-lawful, half-told isn isn-lawful)
+half-read = (tells vsn vsn-lawful, tells isn isn-lawful)
 
 pub halves-apart : HalvesApart
-halves-apart = (half-apart vsn vsn-lawful, half-apart isn isn-lawful)
+halves-apart = (
+  (apart vsn vsn-lawful vsn vsn-lawful, apart vsn vsn-lawful isn isn-lawful),
+  (apart isn isn-lawful vsn vsn-lawful, apart isn isn-lawful isn isn-lawful),
+)
 
--- URS, and segment 1 open to system mode alone, or to all
+-- URS, and segment 65 open to system mode alone, or to all
 upperUnit : (attributes : ℕ) → Unit
 upperUnit attributes = unitOfThree 0xE0 0 0 false blank (segment 0 0xFF attributes) blank
 
@@ -265,4 +295,12 @@ urs-needed = (
       true≢false
       (claim (upperUnit 0) (cycle false true true 0xD 65 0) (command false 0x00 0xC0 ∷ command true 0x06 0 ∷ []) refl
       (refl, (refl, refl)) .1 .0 refl),
+)
+
+-- from power-on, MR with URS: both read %00
+pub stored-needed : StoredNeeded
+unfolding computed Along
+stored-needed = (
+  λ claim. false≢true (claim (final powerOn (command false 0x00 0xE0 ∷ [])) (command true 0x03 0 ∷ []) (refl, refl) .0 refl),
+  λ claim. false≢true (claim (final powerOn (command false 0x00 0xE0 ∷ [])) (command true 0x06 0 ∷ []) (refl, refl) .0 refl),
 )
