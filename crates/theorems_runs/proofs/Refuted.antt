@@ -5,13 +5,13 @@ use mathlib.Core.Path.{_≡_, refl, ap}
 use mathlib.Core.Bool.{Bool, true, false, not, _||_, true≢false, false≢true}
 use mathlib.Core.List.{List, [], _∷_}
 use Prim.Native.Nat.{ℕ, zero, suc, _%_, _≤_, _<_}
-use lib.Dec.{eqb, lit≤}
-use lib.ListN.{getD, replicate, getD-replicate}
+use lib.Dec.{eqb, lit<, lit≤}
+use lib.ListN.{length, getD, replicate, getD-replicate}
 use Rattle.rules.specs.Flags.{has, lacks}
 use Rattle.rules.specs.Masks.{RD, SYS, CPUI, EXC, DMAI, DIRW, PRIMARY}
 use Rattle.rules.specs.PowerOn.{blank, powerOn}
 use Rattle.rules.specs.Refusals.{orphan, damaged}
-use Rattle.rules.specs.Runs.{answers, final}
+use Rattle.rules.specs.Runs.{answers, final, units}
 use Rattle.rules.specs.Seen.{segment, cycle, command, selected}
 use Rattle.rules.specs.declared.Answer.{Answer}
 use Rattle.rules.specs.declared.Cycle.{Cycle}
@@ -184,18 +184,36 @@ set-turned claim =
 abbrev LooksAtSegment : (inside : ℕ → Bool) → Unit → Cycle → Type 0
 LooksAtSegment inside u c = (meetsConditions u c || descriptorRead c) ⇒ inside (c .segment % 64)
 
+-- their descriptors but for segment 0 are equal
+all-but-first : (i : ℕ) → i < 64 → not (eqb i 0) ≡ true → getD (left .table) i blank ≡ getD (right .table) i blank
+all-but-first zero low e = absurd (false≢true e)
+all-but-first (suc i) low e = refl
+
 -- all segments but 0 are in the set, SAR is 0, and the read names segment 1: %09 shows another limit
 pub segment-for-sar : OthersUnseen Sized Alike LooksAtSegment → ⊥
 unfolding Along computed
 segment-for-sar claim =
     true≢false
     (ap (all (λ (x : Answer). eqb (x .byte) 0x10))
-    (claim (λ i. not (eqb i 0)) left right (selected false 3 1 0x09 ∷ []) refl refl (record { registers = refl; table = entries })
+    (claim (λ i. not (eqb i 0)) left right (selected false 3 1 0x09 ∷ []) refl refl (record { registers = refl; table = all-but-first })
     (λ e. refl, refl) .0))
-  where
-    entries : (i : ℕ) → i < 64 → not (eqb i 0) ≡ true → getD (left .table) i blank ≡ getD (right .table) i blank
-    entries zero low e = absurd (false≢true e)
-    entries (suc i) low e = refl
+
+-- "every register but those descriptors" with those descriptors too: they differ, and go on to
+pub outside-differs :
+    ((inside : ℕ → Bool) (a b : Unit) (cs : List Cycle) → Undamaged a → Undamaged b → Alike inside a b → Along (ByTicket inside) a cs
+    → Both (Alike (λ i. true)) (units a cs) (units b cs))
+    → ⊥
+unfolding Along computed
+outside-differs claim =
+    true≢false
+    (ap (λ (d : Descriptor). eqb (d .base) 0x1000)
+    (claim (λ i. not (eqb i 0)) left right (cycle false true false 0 0 0 ∷ []) (unit-undamaged _ _ _) (unit-undamaged _ _ _)
+    (record { registers = refl; table = all-but-first }) ((λ e. absurd (false≢true e), refl), refl) .0 .table 0 (lit< tt) refl))
+
+-- Undamaged units: 63 descriptors for 64
+pub size-misread : ((cs : List Cycle) → length (final powerOn cs .table) ≡ 63) → ⊥
+unfolding computed
+size-misread claim = true≢false (ap (λ (n : ℕ). eqb n 64) (claim []))
 
 -- Orphans and notes
 
@@ -212,6 +230,11 @@ byte-needed claim = true≢false (claim 256 (lit≤ tt) refl)
 pub request-alone : ((cs : List Cycle) → final powerOn cs .registers .notes .request ⇒ final powerOn cs .registers .notes .awaits) → ⊥
 unfolding computed
 request-alone claim = false≢true (claim (command false 0x00 0xC0 ∷ readAt 1 ∷ cycle false true false 13 0 0 ∷ []) refl)
+
+-- await implying own: a later instruction's FATL awaits too
+pub await-alone : ((cs : List Cycle) → final powerOn cs .registers .notes .awaits ⇒ final powerOn cs .registers .notes .own) → ⊥
+unfolding computed
+await-alone claim = false≢true (claim (command false 0x00 0xC0 ∷ readAt 1 ∷ cycle false true false 13 0 0 ∷ readAt 1 ∷ []) refl)
 
 -- Set and clear commands, where the tables of `AloneExactly` and `ExchangesExactly` were misread
 
