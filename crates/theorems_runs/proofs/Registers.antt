@@ -89,10 +89,10 @@ pub record Leaves (r : Registers) (c : Cycle) (x : Decision) (k : Control) (h fi
   pub fetched : x .registers .fetched ≡ instruction start c r
 
 -- all but what a row records stays in it
-pub record Beside (r s : Registers) : Type 0 where
-  pub control : s .control ≡ r .control
-  pub hold : s .notes .hold ≡ r .notes .hold
-  pub fetched : s .fetched ≡ r .fetched
+record Beside (r s : Registers) : Type 0 where
+  control : s .control ≡ r .control
+  hold : s .notes .hold ≡ r .notes .hold
+  fetched : s .fetched ≡ r .fetched
 
 beside : {r s : Registers} → s .control ≡ r .control → s .notes .hold ≡ r .notes .hold → s .fetched ≡ r .fetched → Beside r s
 beside k h f = record { control = k; hold = h; fetched = f }
