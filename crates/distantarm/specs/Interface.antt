@@ -37,7 +37,7 @@ pub record PoweredOn (before after : List ℕ) (number : ℕ) : Type 0 where
 -- ---- a cycle
 
 -- the cycle of the numbers that a caller hands over
-abbrev pub given : (status : ℕ) (read normal dma select : Bool) (segment offset byte : ℕ) (reset : Bool) → Cycle
+abbrev pub given : (status : ℕ) (read normal dma select : Bool) (segment offset low byte : ℕ) (reset : Bool) → Cycle
 given = cycleWith
 
 abbrev pub noRoom : (unit answer : List ℕ) → Bool

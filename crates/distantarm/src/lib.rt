@@ -33,10 +33,11 @@ pub extern "C" fn distantarm_cycle(
     select: bool,
     segment: u8,
     offset: u8,
+    low: u8,
     byte: u8,
     reset: bool,
 ) -> u8
-    ensures { λ r. ⌜ Called (given status read normal dma select segment offset byte reset)
+    ensures { λ r. ⌜ Called (given status read normal dma select segment offset low byte reset)
         (now (unit .entry)) (now (answer .entry)) (now (unit .exit)) (now (answer .exit)) r ⌝ }
 {
     let narrow = (unit.len() < unit_bytes::snapshot::BYTES) | (answer.len() < unit_packed::BYTES);
@@ -51,6 +52,7 @@ pub extern "C" fn distantarm_cycle(
         select,
         segment,
         offset,
+        low,
         byte,
         reset,
     };

@@ -49,6 +49,7 @@ pub fn noted(r: Registers, stores: bool, holds: bool, c: Cycle) -> Registers
             vsn: r.faults.vsn,
             voff: r.faults.voff,
             bcsr: r.faults.bcsr,
+            low: r.faults.low,
         },
         fetched: Fetched {
             isn: pick(stores, c.segment % Unit::NUMBERS, r.fetched.isn),

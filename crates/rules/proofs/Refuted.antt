@@ -8,7 +8,7 @@ use Rattle.rules.specs.Computed.{computed}
 use Rattle.rules.specs.Recording.{firstEntry}
 use Rattle.rules.specs.PowerOn.{faultsOf, notesOf}
 use Rattle.rules.specs.Seen.{Row, row, rowAfter, holds, segment, noNote, warned, everyNote, standing, translating}
-use Rattle.rules.specs.Seen.{cycle, writes, command, drivesBlock, drivesByte, drivesNothing, translated, refusal}
+use Rattle.rules.specs.Seen.{LOW, cycle, writes, command, drivesBlock, drivesByte, drivesNothing, translated, refusal}
 use Rattle.rules.specs.Rows.{writesTo, fetchesFrom, idleHalf, faultedHalf, fetchedHalf}
 use Rattle.rules.specs.CycleRows.{numbered, idle}
 use Rattle.rules.specs.MemoryRows.{unitAs, unitIn, fetchedAt, fetchAt, readAt, writeAt, requested}
@@ -42,13 +42,13 @@ wrongTurns =
     (translated 0x2315 false true) (unitIn 0x04 everyNote 0x80) ∷
     -- "The warning block of a stack taken at the top": at the limit, and at the top
     turned (row (translating (segment 0 0xF0 0x20)) (writes 0xF0) (translated 0xF0 false true)
-    (standing (faultsOf 0x20 0 0xF0 0x28) warned (segment 0 0xF0 0xE0)))
+    (standing (faultsOf 0x20 0 0xF0 0x28 LOW) warned (segment 0 0xF0 0xE0)))
     (translated 0xF0 false false) (translating (segment 0 0xF0 0xE0)) ∷
     turned (row (translating (segment 0 0xF0 0x20)) (writes 0xFF) (translated 0xFF false false) (translating (segment 0 0xF0 0xE0)))
-    (translated 0xFF false true) (standing (faultsOf 0x20 0 0xFF 0x28) warned (segment 0 0xF0 0xE0)) ∷
+    (translated 0xFF false true) (standing (faultsOf 0x20 0 0xFF 0x28 LOW) warned (segment 0 0xF0 0xE0)) ∷
     -- "or a DIRW range measured as limit + 1 blocks": %F1 blocks would begin at %0F
     turned (row (translating (segment 0 0xF0 0x20)) (writes 0x0F) (translated 0x0F true true)
-    (standing (faultsOf 0x04 0 0x0F 0x28) everyNote (segment 0 0xF0 0x20)))
+    (standing (faultsOf 0x04 0 0x0F 0x28 LOW) everyNote (segment 0 0xF0 0x20)))
     (translated 0x0F false false) (translating (segment 0 0xF0 0xE0)) ∷
     -- "FATL set by two violations of one instruction."
     turned (row (unitIn 0x01 everyNote 0) (readAt 0x41) (translated 0x2341 true true) (unitIn 0x05 everyNote 0))

@@ -17,7 +17,7 @@ tableWith d attributes = set (replicate 64 (segment 0 0 attributes)) 0x15 d
 
 -- what commands can change, and a value of its own in every other register
 abbrev pub unitBy : (mr sar dscr vtr : ℕ) → Notes → (table : List Descriptor) → Unit
-unitBy mr sar dscr vtr n table = unitOf table mr sar dscr (faultsOf vtr 0x6A 0x9C 0x38) 0x53 0x71 n
+unitBy mr sar dscr vtr n table = unitOf table mr sar dscr (faultsOf vtr 0x6A 0x9C 0x38 0xE2) 0x53 0x71 n
 
 -- the descriptor at SAR, and the unit at a DSCR
 abbrev pub own : Descriptor

@@ -8,8 +8,9 @@ use Rattle.rules.specs.declared.Faults.{Faults}
 use Rattle.rules.specs.declared.Notes.{Notes}
 use Rattle.rules.specs.declared.Unit.{Unit}
 
-abbrev pub faultsOf : (vtr vsn voff bcsr : ℕ) → Faults
-faultsOf vtr vsn voff bcsr = record { vtr = vtr; vsn = vsn; voff = voff; bcsr = bcsr }
+-- ticket 8: and the low byte
+abbrev pub faultsOf : (vtr vsn voff bcsr low : ℕ) → Faults
+faultsOf vtr vsn voff bcsr low = record { vtr = vtr; vsn = vsn; voff = voff; bcsr = bcsr; low = low }
 
 abbrev pub notesOf : (request awaits own hold : Bool) → Notes
 notesOf request awaits own hold = record { request = request; awaits = awaits; own = own; hold = hold }
@@ -34,6 +35,6 @@ blank = record { base = 0; limit = 0; attributes = 0 }
 abbrev pub quiet : Notes
 quiet = notesOf false false false false
 
--- "At power-on all are zero and false."
+-- "At power-on all are zero and false."; ticket 8: "Power-on makes it 0"
 abbrev pub powerOn : Unit
-powerOn = unitOf (replicate 64 blank) 0 0 0 (faultsOf 0 0 0 0) 0 0 quiet
+powerOn = unitOf (replicate 64 blank) 0 0 0 (faultsOf 0 0 0 0 0) 0 0 quiet

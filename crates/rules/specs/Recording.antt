@@ -28,11 +28,12 @@ unfoldable pub busStatus : Cycle → ℕ
 busStatus c = with (with (c .status % 16) (flagIf (c .read) READ)) (flagIf (c .normal) NORMAL)
 
 -- "its violation flags, or PWW, are added; VSN [..], VOFF and BCSR are stored; own is set; request and await are set."; ticket 2: VSN is the
--- segment's seven bits
+-- segment's seven bits; ticket 8: "Our cycle is to carry [the low byte] and the unit record is to keep it when VOFF is stored, under the same
+-- rows."
 unfoldable pub firstEntry : Registers → Cycle → (event : ℕ) → Registers
 firstEntry r c event = record {
   control = r .control;
-  faults = faultsOf (with (r .faults .vtr) event) (sevenBits c) (c .offset) (busStatus c);
+  faults = faultsOf (with (r .faults .vtr) event) (sevenBits c) (c .offset) (busStatus c) (c .low);
   fetched = r .fetched;
   notes = notesOf true true true (r .notes .hold);
 }

@@ -9,11 +9,11 @@ use Rattle.rules.specs.declared.Registers.{Registers}
 abbrev pub withControl : Registers → Control → Registers
 withControl r k = record { control = k; faults = r .faults; fetched = r .fetched; notes = r .notes }
 
--- the VTR; "addresses stay"
+-- the VTR; "addresses stay", the low byte with them
 abbrev pub withVtr : Registers → (vtr : ℕ) → Registers
 withVtr r vtr = record {
   control = r .control;
-  faults = faultsOf vtr (r .faults .vsn) (r .faults .voff) (r .faults .bcsr);
+  faults = faultsOf vtr (r .faults .vsn) (r .faults .voff) (r .faults .bcsr) (r .faults .low);
   fetched = r .fetched;
   notes = r .notes;
 }

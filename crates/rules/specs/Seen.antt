@@ -63,7 +63,7 @@ abbrev pub sameRegisters : Registers → Registers → Bool
 sameRegisters r q =
     eqb (r .control .mr) (q .control .mr) && eqb (r .control .sar) (q .control .sar) && eqb (r .control .dscr) (q .control .dscr)
     && eqb (r .faults .vtr) (q .faults .vtr) && eqb (r .faults .vsn) (q .faults .vsn)
-    && eqb (r .faults .voff) (q .faults .voff) && eqb (r .faults .bcsr) (q .faults .bcsr)
+    && eqb (r .faults .voff) (q .faults .voff) && eqb (r .faults .bcsr) (q .faults .bcsr) && eqb (r .faults .low) (q .faults .low)
     && eqb (r .fetched .isn) (q .fetched .isn) && eqb (r .fetched .ioff) (q .fetched .ioff)
     && sameNotes (r .notes) (q .notes)
 
@@ -104,7 +104,7 @@ unitHolding mr sar dscr f isn ioff n number d = unitOf (set (powerOn .table) num
 
 -- a unit with MR and one descriptor, else as at power-on
 abbrev pub unitWith : (mr number : ℕ) → Descriptor → Unit
-unitWith mr n d = unitHolding mr 0 0 (faultsOf 0 0 0 0) 0 0 noNote n d
+unitWith mr n d = unitHolding mr 0 0 (faultsOf 0 0 0 0 0) 0 0 noNote n d
 
 -- MSEN and TRNS, what stands in the faults and notes, and segment 0
 abbrev pub standing : Faults → Notes → Descriptor → Unit
@@ -115,8 +115,8 @@ translating d = unitWith 0xC0 0 d
 
 -- Cycles
 
-abbrev pub cycleWith : (status : ℕ) → (read normal dma select : Bool) → (number offset byte : ℕ) → (reset : Bool) → Cycle
-cycleWith status read normal dma select number offset b reset = record {
+abbrev pub cycleWith : (status : ℕ) → (read normal dma select : Bool) → (number offset low byte : ℕ) → (reset : Bool) → Cycle
+cycleWith status read normal dma select number offset low b reset = record {
   status = status;
   read = read;
   normal = normal;
@@ -124,13 +124,19 @@ cycleWith status read normal dma select number offset b reset = record {
   select = select;
   segment = number;
   offset = offset;
+  low = low;
   byte = b;
   reset = reset;
 }
 
+-- Ticket 8: the low byte of the cycles below. No unit of the rows has it before, so a row in which it is kept shows it, and one in which it
+-- isn't too.
+abbrev pub LOW : ℕ
+LOW = 0xA7
+
 -- a cycle of the CPU or of DMA, not selected
 abbrev pub cycle : (dma read normal : Bool) → (status number offset : ℕ) → Cycle
-cycle dma read normal status number offset = cycleWith status read normal dma false number offset 0 false
+cycle dma read normal status number offset = cycleWith status read normal dma false number offset LOW 0 false
 
 -- normal data read and write at an offset byte of segment 0
 abbrev pub reads : (offset : ℕ) → Cycle
@@ -148,15 +154,15 @@ acknowledge = cycle false true false 4 0 0
 
 -- a selected command of the CPU
 abbrev pub command : (read : Bool) → (code byte : ℕ) → Cycle
-command read code b = cycleWith 3 read false false true 0 code b false
+command read code b = cycleWith 3 read false false true 0 code LOW b false
 
 -- a selected read of the CPU or of DMA
 abbrev pub selected : (dma : Bool) → (status number offset : ℕ) → Cycle
-selected dma status number offset = cycleWith status true true dma true number offset 0 false
+selected dma status number offset = cycleWith status true true dma true number offset LOW 0 false
 
 -- the reset line on, with a status and select
 abbrev pub resetAt : (status : ℕ) → (select : Bool) → Cycle
-resetAt status select = cycleWith status true false false select 0 0 0 true
+resetAt status select = cycleWith status true false false select 0 0 LOW 0 true
 
 abbrev pub resets : Cycle
 resets = resetAt 0 false

@@ -16,12 +16,13 @@ pub struct Control {
     pub dscr: u8,
 }
 
-// The VTR, and what its first entry stored.
+// The VTR, and what its first entry stored. `low` is the low byte of the address, which no command shows.
 pub struct Faults {
     pub vtr: u8,
     pub vsn: u8,
     pub voff: u8,
     pub bcsr: u8,
+    pub low: u8,
 }
 
 // Where the last instruction was fetched.
@@ -52,7 +53,7 @@ pub struct Unit {
     pub registers: Registers,
 }
 
-// A bus cycle. `offset` is the byte of the address phase: the offset's high byte, or the command code.
+// A bus cycle. `offset` is the byte of the address phase: the offset's high byte, or the command code; `low` is the offset's low byte.
 pub struct Cycle {
     pub status: u8,
     pub read: bool,
@@ -61,6 +62,7 @@ pub struct Cycle {
     pub select: bool,
     pub segment: u8,
     pub offset: u8,
+    pub low: u8,
     pub byte: u8,
     pub reset: bool,
 }
@@ -320,6 +322,7 @@ impl Unit {
                 vsn: 0,
                 voff: 0,
                 bcsr: 0,
+                low: 0,
             },
             fetched: Fetched { isn: 0, ioff: 0 },
             notes: Notes {

@@ -31,6 +31,7 @@ fn with_all(
             vsn: r.faults.vsn,
             voff: r.faults.voff,
             bcsr: r.faults.bcsr,
+            low: r.faults.low,
         },
         fetched: Fetched {
             isn: r.fetched.isn,

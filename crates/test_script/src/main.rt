@@ -13,14 +13,6 @@ use rules_flags::pick;
 use unit_lent::step_by_lending;
 use unit_step::table;
 
-// A unit with the registers of a `U` line, and with the table of power-on, all zero.
-fn unit_with(line: &[u8]) -> Unit {
-    let u = Unit::power_on();
-    let table = u.table;
-    let registers = parse::registers_in(line);
-    Unit { table, registers }
-}
-
 // The unit with the descriptor of a `D` line.
 fn with_descriptor(u: Unit, line: &[u8]) -> Unit {
     let d = parse::descriptor_in(line);
@@ -48,7 +40,7 @@ fn stepped(u: Unit, line: &[u8]) -> Unit {
 // The unit after a line; one that asks for nothing is answered at once.
 fn obeyed(u: Unit, line: &[u8]) -> Unit {
     match parse::kind_of(line) {
-        b'U' => unit_with(line),
+        b'U' => parse::unit_in(line),
         b'D' => with_descriptor(u, line),
         b'C' => stepped(u, line),
         _ => {

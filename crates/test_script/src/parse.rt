@@ -1,7 +1,6 @@
 // The lines of a script: of which form each is, and what its numbers say.
 use rules::Cycle;
 use rules::Descriptor;
-use rules::Registers;
 use rules::Unit;
 use trace_header::byte_at;
 use unit_bytes::snapshot;
@@ -52,34 +51,34 @@ pub fn number(line: &[u8], at: u8) -> u8 {
 
 // The line's letter, where the line is of that letter's form and names no descriptor above %3F, else 0.
 pub fn kind_of(line: &[u8]) -> u8 {
-    if fits(line, b"U xx xx xx xx xx xx xx xx xx xx") {
+    if fits(line, b"U xx xx xx xx xx xx xx xx xx xx xx") {
         return b'U';
     }
     let named = number(line, PLACE) < Unit::SEGMENTS;
     if named & fits(line, b"D xx xxxx xx xx") {
         return b'D';
     }
-    if fits(line, b"C xx xx xx xx xx") {
+    if fits(line, b"C xx xx xx xx xx xx") {
         return b'C';
     }
     0
 }
 
-// The registers of a `U` line: its numbers are the first bytes of a unit.
-pub fn registers_in(line: &[u8]) -> Registers {
-    let bytes = [
-        number(line, 2),
-        number(line, 5),
-        number(line, 8),
-        number(line, 11),
-        number(line, 14),
-        number(line, 17),
-        number(line, 20),
-        number(line, 23),
-        number(line, 26),
-        number(line, 29),
-    ];
-    snapshot::registers_in(&bytes)
+// The unit of a `U` line, with a table of zeros: its numbers are the first bytes of a unit, and the last.
+pub fn unit_in(line: &[u8]) -> Unit {
+    let mut bytes = [0; snapshot::BYTES];
+    bytes[snapshot::MR] = number(line, 2);
+    bytes[snapshot::SAR] = number(line, 5);
+    bytes[snapshot::DSCR] = number(line, 8);
+    bytes[snapshot::VTR] = number(line, 11);
+    bytes[snapshot::VSN] = number(line, 14);
+    bytes[snapshot::VOFF] = number(line, 17);
+    bytes[snapshot::BCSR] = number(line, 20);
+    bytes[snapshot::ISN] = number(line, 23);
+    bytes[snapshot::IOFF] = number(line, 26);
+    bytes[snapshot::NOTES] = number(line, 29);
+    bytes[snapshot::LOW] = number(line, 32);
+    snapshot::unit_in(&bytes)
 }
 
 // The descriptor of a `D` line, behind its number: the bytes of a descriptor in a unit.
@@ -93,7 +92,7 @@ pub fn descriptor_in(line: &[u8]) -> Descriptor {
     snapshot::descriptor_in(&bytes, 0)
 }
 
-// The cycle of a `C` line: status, flags, segment, offset byte, data byte. The flags, from bit 0 up: read, normal, DMA, select, reset line.
+// The cycle of a `C` line: status, flags, segment, offset byte, low byte, data byte. The flags, from bit 0 up: read, normal, DMA, select, reset line.
 pub fn cycle_in(line: &[u8]) -> Cycle {
     let f = number(line, 5);
     Cycle {
@@ -104,7 +103,8 @@ pub fn cycle_in(line: &[u8]) -> Cycle {
         select: f & 8 != 0,
         segment: number(line, 8),
         offset: number(line, 11),
-        byte: number(line, 14),
+        low: number(line, 14),
+        byte: number(line, 17),
         reset: f & 16 != 0,
     }
 }

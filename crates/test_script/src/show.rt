@@ -1,7 +1,6 @@
 // What the program writes.
 use libc::STDOUT_FILENO;
 use rules::Answer;
-use rules::Registers;
 use rules::Stepped;
 use rules::Unit;
 use text::fields::put_address;
@@ -35,19 +34,20 @@ fn answer(a: Answer) {
     }
 }
 
-// The registers and the notes as a unit's bytes have them.
-fn bytes_of(r: Registers) -> [u8; snapshot::TABLE] {
-    let mut bytes = [0; snapshot::TABLE];
-    snapshot::put_registers(&mut bytes, r);
+// A unit's bytes.
+fn bytes_of(u: Unit) -> [u8; snapshot::BYTES] {
+    let mut bytes = [0; snapshot::BYTES];
+    snapshot::put_unit(&mut bytes, u);
     bytes
 }
 
-// These bytes, in the order of a `U` line.
-fn registers(bytes: [u8; snapshot::TABLE]) {
-    let mut line = *b" | xx xx xx xx xx xx xx xx xx xx";
+// These bytes but for the descriptors', in the order of a `U` line.
+fn registers(bytes: [u8; snapshot::BYTES]) {
+    let mut line = *b" | xx xx xx xx xx xx xx xx xx xx xx";
     for i in 0..snapshot::TABLE {
         put_hex(&mut line, 3 + 3 * i, bytes[i]);
     }
+    put_hex(&mut line, 3 + 3 * snapshot::TABLE, bytes[snapshot::LOW]);
     text(&line);
 }
 
@@ -71,6 +71,6 @@ fn descriptor(u: Unit, place: u8) {
 // A cycle's line: its answer, and the unit after it with one of its descriptors.
 pub fn cycle(s: Stepped, place: u8) {
     answer(s.answer);
-    registers(bytes_of(s.unit.registers));
+    registers(bytes_of(s.unit));
     descriptor(s.unit, place);
 }

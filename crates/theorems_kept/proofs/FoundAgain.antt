@@ -7,10 +7,10 @@ use Prim.Native.Nat.{ℕ, zero, suc, _+_, _*_, _<_, _≤_}
 use native.Mathlib.Nat.{add-assoc, le-of-suc-le-suc, not-suc-le-zero}
 use native.Mathlib.Omega.{arith}
 use lib.Dec.{ltb}
-use lib.ListN.{length, getD, take, drop}
+use lib.ListN.{length, getD, take, drop, length-append}
 use borrow.Author.Tests.{le-ltb}
 use lib.Seq.{sets, sets-eq, take-suc, take-all, getD-append-add}
-use Rattle.rules.specs.PowerOn.{blank}
+use Rattle.rules.specs.PowerOn.{faultsOf, blank}
 use Rattle.rules.specs.declared.Descriptor.{Descriptor}
 use Rattle.rules.specs.declared.Notes.{Notes}
 use Rattle.rules.specs.declared.Registers.{Registers}
@@ -18,7 +18,7 @@ use Rattle.rules.specs.declared.Unit.{Unit}
 use Rattle.unit_stores.proofs.Bits.{flag-found, flags-less}
 use Rattle.unit_stores.proofs.Words.{word-found}
 use Rattle.unit_stores.specs.Word.{wordAt}
-use Rattle.unit_bytes.specs.Snapshot.{descriptorSize, segments, descriptorAt, unitSize, LAST_NOTES}
+use Rattle.unit_bytes.specs.Snapshot.{descriptorSize, segments, descriptorAt, lowAt, unitSize, LAST_NOTES}
 use Rattle.unit_bytes.specs.Snapshot.{descriptorIn, tableIn, notesIn, registersIn, unitIn}
 use Rattle.unit_bytes.specs.Snapshot.{descriptorBytes, tableBytes, notesByte, registerBytes, unitBytes}
 use Rattle.unit_bytes.proofs.Tables.{table-length}
@@ -67,22 +67,48 @@ module _ (r : Registers) (t : List Descriptor) (rest : List ℕ) where
       (past (registerBytes r) (tableBytes t ++ rest) (descriptorSize * n) ∙ one-found t rest n h)
       ∙ sym (take-suc t n blank h)
 
-  -- ---- the registers
-  registers-found : registersIn (registerBytes r ++ tableBytes t ++ rest) ≡ r
+  -- ---- the registers, the low byte behind the table
+  low-found : (low : ℕ) → length t ≡ segments → getD (registerBytes r ++ tableBytes t ++ (low ∷ rest)) lowAt 0 ≡ low
+  unfolding registerBytes
+  low-found low size =
+      let first : length (tableBytes t) ≡ descriptorSize * segments = table-length t ∙ ap (λ (n : ℕ). descriptorSize * n) size in
+      ap (λ (k : ℕ). getD (tableBytes t ++ (low ∷ rest)) (k + 0) 0) (sym first) ∙ getD-append-add (tableBytes t) (low ∷ rest) 0 0
+
+  registers-found : length t ≡ segments → registersIn (registerBytes r ++ tableBytes t ++ (r .faults .low ∷ rest)) ≡ r
   unfolding registersIn registerBytes
-  registers-found =
-      ap (λ (n : Notes). record { control = r .control; faults = r .faults; fetched = r .fetched; notes = n }) (notes-found (r .notes))
+  registers-found size =
+      let low : _ ≡ r .faults .low = low-found (r .faults .low) size in
+      λ i. record {
+        control = r .control;
+        faults = faultsOf (r .faults .vtr) (r .faults .vsn) (r .faults .voff) (r .faults .bcsr) (low i);
+        fetched = r .fetched;
+        notes = notes-found (r .notes) i;
+      }
 
 -- ---- the whole
+
+-- the bytes of a unit with 64 descriptors
+pub unit-length : (u : Unit) → length (u .table) ≡ segments → length (unitBytes u) ≡ unitSize
+unfolding unitBytes registerBytes
+unit-length u size =
+    let table : length (tableBytes (u .table)) ≡ descriptorSize * length (u .table) = table-length (u .table) in
+    let behind : length (tableBytes (u .table) ++ (u .registers .faults .low ∷ [])) ≡ length (tableBytes (u .table)) + 1 =
+    length-append (tableBytes (u .table)) (u .registers .faults .low ∷ []) in
+    omega arith
+
 module _ (l : List ℕ) (u : Unit) (room : unitSize ≤ length l) (size : length (u .table) ≡ segments) where
   rest : List ℕ
   rest = drop (0 + length (unitBytes u)) l
 
-  shape : sets l 0 (unitBytes u) ≡ registerBytes (u .registers) ++ tableBytes (u .table) ++ rest
+  shape : sets l 0 (unitBytes u) ≡ registerBytes (u .registers) ++ tableBytes (u .table) ++ (u .registers .faults .low ∷ rest)
   unfolding unitBytes registerBytes rest
   shape =
-      let long : length (tableBytes (u .table)) ≡ descriptorSize * length (u .table) = table-length (u .table) in
-      sets-eq (unitBytes u) l 0 (omega arith) ∙ append-assoc (registerBytes (u .registers)) (tableBytes (u .table)) rest
+      let first : List ℕ = registerBytes (u .registers) in
+      let table : List ℕ = tableBytes (u .table) in
+      let last : List ℕ = u .registers .faults .low ∷ [] in
+      sets-eq (unitBytes u) l 0 (omega (arith, unit-length u size))
+      ∙ append-assoc first (table ++ last) rest
+      ∙ ap (λ (x : List ℕ). first ++ x) (append-assoc table last rest)
 
   pub never-strange : strange (sets l 0 (unitBytes u)) ≡ false
   unfolding registerBytes
@@ -93,11 +119,12 @@ module _ (l : List ℕ) (u : Unit) (room : unitSize ≤ length l) (size : length
   whole =
       let r : Registers = u .registers in
       let t : List Descriptor = u .table in
-      let x : List ℕ = registerBytes r ++ tableBytes t ++ rest in
-      let all : tableIn x segments ≡ t = table-found r t rest segments (omega arith) ∙ take-all segments t (omega arith) in
+      let behind : List ℕ = r .faults .low ∷ rest in
+      let x : List ℕ = registerBytes r ++ tableBytes t ++ behind in
+      let all : tableIn x segments ≡ t = table-found r t behind segments (omega arith) ∙ take-all segments t (omega arith) in
       ap unitIn shape
       ∙ ap (λ (s : List Descriptor). record { table = s; registers = registersIn x }) all
-      ∙ ap (λ (s : Registers). record { table = t; registers = s }) (registers-found r t rest)
+      ∙ ap (λ (s : Registers). record { table = t; registers = s }) (registers-found r t rest size)
 
 pub found-again : FoundAgain
 found-again = whole

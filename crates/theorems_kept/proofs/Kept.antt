@@ -3,7 +3,7 @@
 use mathlib.Core.Path.{_≡_, refl, sym, ap, _∙_}
 use mathlib.Core.Bool.{Bool, true, false}
 use mathlib.Core.List.{List, [], _∷_, _++_}
-use Prim.Native.Nat.{ℕ, _+_, _*_, _≤_}
+use Prim.Native.Nat.{ℕ, _+_, _≤_}
 use native.Mathlib.Omega.{arith}
 use lib.ListN.{length, getD, drop}
 use lib.Seq.{sets, sets-eq, length-sets, drop-at}
@@ -16,12 +16,11 @@ use Rattle.rules.specs.declared.Kind.the-variants.{Refused}
 use Rattle.rules.specs.declared.Unit.{Unit}
 use Rattle.theorems_runs.proofs.Refusal.{refusal-leaves}
 use Rattle.theorems_runs.proofs.Undamaged.{size-after}
-use Rattle.unit_bytes.specs.Snapshot.{notesAt, descriptorSize, segments, unitSize, LAST_NOTES, unitIn, tableBytes, registerBytes, unitBytes}
-use Rattle.unit_bytes.proofs.Tables.{table-length}
+use Rattle.unit_bytes.specs.Snapshot.{notesAt, segments, unitSize, LAST_NOTES, unitIn, unitBytes}
 use Rattle.unit_bytes.specs.Cycled.{strange, answerBy, answerOf, bytesBy, bytesAfter}
 use Rattle.theorems_kept.specs.Kept.{Bytes, RefusalKeeps, calls, left, CallsAreTheRun}
 use Rattle.theorems_kept.proofs.PutBack.{put-back}
-use Rattle.theorems_kept.proofs.FoundAgain.{found-again, never-strange}
+use Rattle.theorems_kept.proofs.FoundAgain.{unit-length, found-again, never-strange}
 
 by : (b : Bool) (unit : List ℕ) (c : Cycle) (n : ℕ) → Bytes unit → strange unit ≡ b → answerBy b unit c .kind ≡ Refused n
     → bytesBy b unit c ≡ unit
@@ -56,11 +55,6 @@ put-over l a b room same =
     ∙ ap (λ (k : ℕ). drop k l) ends in
     sets-eq b (sets l 0 a) 0 wide ∙ ap (λ (r : List ℕ). b ++ r) behind ∙ sym (sets-eq b l 0 (omega arith))
 
--- the bytes of a unit with 64 descriptors
-long : (u : Unit) → length (u .table) ≡ segments → length (unitBytes u) ≡ unitSize
-unfolding unitBytes registerBytes
-long u size = let h : length (tableBytes (u .table)) ≡ descriptorSize * length (u .table) = table-length (u .table) in omega arith
-
 pub calls-are-the-run : CallsAreTheRun
 unfolding calls left answers final
 calls-are-the-run l u [] room size = (refl, refl)
@@ -69,7 +63,7 @@ calls-are-the-run l u (c ∷ cs) room size =
     let x : List ℕ = sets l 0 (unitBytes u) in
     let size′ : length (v .table) ≡ segments = size-after u c ∙ size in
     let over : bytesAfter x c ≡ sets l 0 (unitBytes v) =
-    leaves-as l u c room size ∙ put-over l (unitBytes u) (unitBytes v) (omega (arith, long u size)) (long v size′ ∙ sym (long u size)) in
+    leaves-as l u c room size ∙ put-over l (unitBytes u) (unitBytes v) (omega (arith, unit-length u size)) (unit-length v size′ ∙ sym (unit-length u size)) in
     let rest = calls-are-the-run l v cs room size′ in (
       ap (λ (a : Answer). a ∷ calls (bytesAfter x c) cs) (answers-as l u c room size)
           ∙ ap (λ (m : List ℕ). stepped u c .answer ∷ calls m cs) over

@@ -1,21 +1,21 @@
 -- The bytes of the unit that bytes hold are those bytes.
 -- Assumes nothing.
 use mathlib.Core.Path.{_≡_, refl, sym, ap, _∙_}
-use mathlib.Core.List.{List, [], _∷_}
+use mathlib.Core.List.{List, [], _∷_, _++_}
 use Prim.Native.Nat.{ℕ, zero, suc, _+_, _*_, _≤_}
 use native.Mathlib.Numerals.{towards-suc}
 use native.Mathlib.Omega.{arith}
-use lib.ListN.{length, getD, length-append}
+use lib.ListN.{length, getD, set, length-append}
 use lib.Seq.{sets, set-getD}
 use Rattle.rules.specs.declared.Descriptor.{Descriptor}
 use Rattle.unit_stores.proofs.Bits.{flags-back}
 use Rattle.unit_stores.proofs.Laws.{sets-append}
 use Rattle.unit_stores.proofs.Words.{high-back, low-back}
 use Rattle.unit_stores.specs.Word.{wordAt}
-use Rattle.unit_bytes.specs.Snapshot.{notesAt, tableAt, descriptorSize, segments, descriptorAt, LAST_NOTES}
+use Rattle.unit_bytes.specs.Snapshot.{notesAt, tableAt, descriptorSize, segments, descriptorAt, lowAt, LAST_NOTES}
 use Rattle.unit_bytes.specs.Snapshot.{descriptorIn, tableIn, notesIn, registersIn, unitIn}
 use Rattle.unit_bytes.specs.Snapshot.{descriptorBytes, tableBytes, notesByte, registerBytes, unitBytes}
-use Rattle.unit_bytes.proofs.Tables.{table-more, table-length}
+use Rattle.unit_bytes.proofs.Tables.{table-more, table-length, low-stored}
 use Rattle.theorems_kept.specs.Kept.{Bytes}
 
 -- ---- the notes
@@ -58,8 +58,12 @@ module _ (l : List ℕ) (bytes : Bytes l) where
   registers-back h = simp (notes-back (getD l notesAt 0) h, set-getD)
 
   pub put-back : getD l notesAt 0 ≤ LAST_NOTES → sets l 0 (unitBytes (unitIn l)) ≡ l
-  unfolding unitBytes unitIn registerBytes
+  unfolding unitBytes unitIn registerBytes registersIn
   put-back h =
-      sym (sets-append l 0 (registerBytes (registersIn l)) (tableBytes (tableIn l segments)))
-      ∙ ap (λ (m : List ℕ). sets m tableAt (tableBytes (tableIn l segments))) (registers-back h)
-      ∙ table-back segments
+      let low : ℕ = getD l lowAt 0 in
+      let behind : List ℕ = tableBytes (tableIn l segments) ++ (low ∷ []) in
+      sym (sets-append l 0 (registerBytes (registersIn l)) behind)
+      ∙ ap (λ (m : List ℕ). sets m tableAt behind) (registers-back h)
+      ∙ sym (low-stored l (tableIn l segments) low (table-long segments))
+      ∙ ap (λ (m : List ℕ). set m lowAt low) (table-back segments)
+      ∙ set-getD l lowAt 0

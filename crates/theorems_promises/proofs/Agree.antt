@@ -90,8 +90,8 @@ distantarm-power-on-agrees κs κ₀ a u x e f room p q = (
 )
 
 -- a cycle as `distantarm_cycle` takes it
-abbrev handed : Cycle → ℕ × (Bool × (Bool × (Bool × (Bool × (ℕ × (ℕ × (ℕ × (Bool × Unit {0}))))))))
-handed c = (c .status, (c .read, (c .normal, (c .dma, (c .select, (c .segment, (c .offset, (c .byte, (c .reset, tt)))))))))
+abbrev handed : Cycle → ℕ × (Bool × (Bool × (Bool × (Bool × (ℕ × (ℕ × (ℕ × (ℕ × (Bool × Unit {0})))))))))
+handed c = (c .status, (c .read, (c .normal, (c .dma, (c .select, (c .segment, (c .offset, (c .low, (c .byte, (c .reset, tt))))))))))
 
 -- a cycle of the unit in the bytes, where there is room and the notes are a unit's
 pub distantarm-cycle-agrees : (κs : Lfts 2) (κ₀ : Lfts 0) (u v : RefT (List ℕ)) (c : Cycle) (s : Stepped) (x : ℕ)

@@ -14,7 +14,7 @@ use lib.Seq.{sets}
 use Rattle.text.specs.Listed.{filled, lengthOf}
 use Rattle.trace_reader.specs.declared.Found.{Found}
 use Rattle.trace_reader.specs.declared.Step.the-variants.{Record, No}
-use Rattle.rules.specs.Seen.{segment, translating, cycle, translated}
+use Rattle.rules.specs.Seen.{segment, translating, cycleWith, cycle, translated}
 use Rattle.rules.specs.declared.Kind.the-variants.{Translated}
 use Rattle.rules.specs.declared.Stepped.{Stepped}
 use Rattle.unit_lent.proofs.step_by_lending.Kinds as step-by-lending-k
@@ -36,13 +36,23 @@ use Rattle.theorems_promises.proofs.Computed.{allComputed}
 abbrev lent : ℕ × ℕ → ℕ → List ℕ → RefT (List ℕ)
 lent p g l = record { ptr = p; name = g; now = l }
 
--- the unit after the first five cycles of the sample: MSEN and TRNS, and segment 0 with the attributes
-abbrev pub turnedOn : (attributes : ℕ) → List ℕ
-turnedOn a = 192 ∷ replicate 9 0 ++ (35 ∷ 17 ∷ 32 ∷ a ∷ replicate 252 0)
+-- segment 0 with the attributes, the others blank, and a low byte: what stands behind a unit's notes
+abbrev behind : (attributes low : ℕ) → List ℕ
+behind a low = 35 ∷ 17 ∷ 32 ∷ a ∷ replicate 252 0 ++ (low ∷ [])
 
--- a system data read in segment 0, at offset %15, as `distantarm_cycle` takes it
-abbrev dataRead : ℕ × (Bool × (Bool × (Bool × (Bool × (ℕ × (ℕ × (ℕ × (Bool × Unit {0}))))))))
-dataRead = (8, (true, (false, (false, (false, (0, (21, (0, (false, tt)))))))))
+-- the unit after the first five cycles of the sample: MSEN and TRNS, and segment 0; with an older low byte, 99
+abbrev turnedOn : (attributes : ℕ) → List ℕ
+turnedOn a = 192 ∷ replicate 9 0 ++ behind a 99
+
+-- a system data read and a normal data write in segment 0, at offset %15 and low byte 77, as `distantarm_cycle` takes them
+abbrev dataCycle : (read normal : Bool) → ℕ × (Bool × (Bool × (Bool × (Bool × (ℕ × (ℕ × (ℕ × (ℕ × (Bool × Unit {0})))))))))
+dataCycle read normal = (8, (read, (normal, (false, (false, (0, (21, (77, (0, (false, tt))))))))))
+
+abbrev dataRead : ℕ × (Bool × (Bool × (Bool × (Bool × (ℕ × (ℕ × (ℕ × (ℕ × (Bool × Unit {0})))))))))
+dataRead = dataCycle true false
+
+abbrev dataWrite : ℕ × (Bool × (Bool × (Bool × (Bool × (ℕ × (ℕ × (ℕ × (ℕ × (Bool × Unit {0})))))))))
+dataWrite = dataCycle false true
 
 -- record 5: a system data read. The seventh byte of the lent answer is left
 pub distantarm-cycle-known : (κs : Lfts 2) (p q : ℕ × ℕ) (g h x : ℕ) (e : AtExit (endedOf 2 distantarm-cycle-k.ps distantarm-cycle-k.r) κs)
@@ -51,21 +61,28 @@ pub distantarm-cycle-known : (κs : Lfts 2) (p q : ℕ × ℕ) (g h x : ℕ) (e 
 unfolding allComputed
 distantarm-cycle-known κs p q g h x e l = (l .says, l .leaves, l .shows)
 
+-- record 6: a normal data write, which RD forbids. VTR, VOFF, BCSR and the notes are stored, and the low byte over the older one
+pub distantarm-cycle-stores : (κs : Lfts 2) (p q : ℕ × ℕ) (g h x : ℕ) (e : AtExit (endedOf 2 distantarm-cycle-k.ps distantarm-cycle-k.r) κs)
+    → distantarm-cycle.Learnt κs (lent p g (turnedOn 129), (lent q h (replicate 6 9), dataWrite)) x e
+    → (x ≡ 0) × (now (e .0) ≡ 192 ∷ 0 ∷ 0 ∷ 1 ∷ 0 ∷ 21 ∷ 40 ∷ 0 ∷ 0 ∷ 15 ∷ behind 129 77) × (now (e .1 .0) ≡ 84 ∷ 0 ∷ 35 ∷ 38 ∷ 7 ∷ 0 ∷ [])
+unfolding allComputed
+distantarm-cycle-stores κs p q g h x e l = (l .says, l .leaves, l .shows)
+
 -- notes that no unit has: refusal 2, and every byte of the unit is left
 pub distantarm-cycle-strange : (κs : Lfts 2) (p q : ℕ × ℕ) (g h x : ℕ) (e : AtExit (endedOf 2 distantarm-cycle-k.ps distantarm-cycle-k.r) κs)
-    → distantarm-cycle.Learnt κs (lent p g (replicate 9 0 ++ (16 ∷ replicate 256 0)), (lent q h (replicate 6 9), dataRead)) x e
-    → (x ≡ 2) × (now (e .0) ≡ replicate 9 0 ++ (16 ∷ replicate 256 0)) × (now (e .1 .0) ≡ 88 ∷ 2 ∷ 0 ∷ 0 ∷ 0 ∷ 0 ∷ [])
+    → distantarm-cycle.Learnt κs (lent p g (replicate 9 0 ++ (16 ∷ replicate 257 0)), (lent q h (replicate 6 9), dataRead)) x e
+    → (x ≡ 2) × (now (e .0) ≡ replicate 9 0 ++ (16 ∷ replicate 257 0)) × (now (e .1 .0) ≡ 88 ∷ 2 ∷ 0 ∷ 0 ∷ 0 ∷ 0 ∷ [])
 unfolding allComputed
 distantarm-cycle-strange κs p q g h x e l = (l .says, l .leaves, l .shows)
 
 -- the least room, and a byte less of either
 pub distantarm-cycle-room : (κs : Lfts 2) (p q : ℕ × ℕ) (g h x y z : ℕ)
     (d e f : AtExit (endedOf 2 distantarm-cycle-k.ps distantarm-cycle-k.r) κs)
-    → distantarm-cycle.Learnt κs (lent p g (replicate 266 0), (lent q h (replicate 6 9), dataRead)) x d
-    → distantarm-cycle.Learnt κs (lent p g (replicate 265 0), (lent q h (replicate 6 9), dataRead)) y e
-    → distantarm-cycle.Learnt κs (lent p g (replicate 266 0), (lent q h (replicate 5 9), dataRead)) z f
-    → (x ≡ 0) × ((y ≡ 255) × (now (e .0) ≡ replicate 265 0) × (now (e .1 .0) ≡ replicate 6 9))
-    × ((z ≡ 255) × (now (f .0) ≡ replicate 266 0) × (now (f .1 .0) ≡ replicate 5 9))
+    → distantarm-cycle.Learnt κs (lent p g (replicate 267 0), (lent q h (replicate 6 9), dataRead)) x d
+    → distantarm-cycle.Learnt κs (lent p g (replicate 266 0), (lent q h (replicate 6 9), dataRead)) y e
+    → distantarm-cycle.Learnt κs (lent p g (replicate 267 0), (lent q h (replicate 5 9), dataRead)) z f
+    → (x ≡ 0) × ((y ≡ 255) × (now (e .0) ≡ replicate 266 0) × (now (e .1 .0) ≡ replicate 6 9))
+    × ((z ≡ 255) × (now (f .0) ≡ replicate 267 0) × (now (f .1 .0) ≡ replicate 5 9))
 unfolding allComputed
 distantarm-cycle-room κs p q g h x y z d e f k l m = (k .says, (l .says, l .leaves, l .shows), (m .says, m .leaves, m .shows))
 
@@ -111,11 +128,11 @@ distantarm-list-known κs p q g h x l e s = (
 -- a byte more than a unit has, as many, and a byte less
 pub distantarm-power-on-known : (κs : Lfts 1) (p : ℕ × ℕ) (g x y z : ℕ)
     (d e f : AtExit (endedOf 1 distantarm-power-on-k.ps distantarm-power-on-k.r) κs)
-    → distantarm-power-on.Learnt κs (lent p g (replicate 267 9), tt) x d
-    → distantarm-power-on.Learnt κs (lent p g (replicate 266 9), tt) y e
-    → distantarm-power-on.Learnt κs (lent p g (replicate 265 9), tt) z f
-    → ((x ≡ 0) × (now (d .0) ≡ replicate 266 0 ++ (9 ∷ []))) × ((y ≡ 0) × (now (e .0) ≡ replicate 266 0))
-    × ((z ≡ 255) × (now (f .0) ≡ replicate 265 9))
+    → distantarm-power-on.Learnt κs (lent p g (replicate 268 9), tt) x d
+    → distantarm-power-on.Learnt κs (lent p g (replicate 267 9), tt) y e
+    → distantarm-power-on.Learnt κs (lent p g (replicate 266 9), tt) z f
+    → ((x ≡ 0) × (now (d .0) ≡ replicate 267 0 ++ (9 ∷ []))) × ((y ≡ 0) × (now (e .0) ≡ replicate 267 0))
+    × ((z ≡ 255) × (now (f .0) ≡ replicate 266 9))
 unfolding allComputed
 distantarm-power-on-known κs p g x y z d e f k l m = ((k .says, k .leaves), (l .says, l .leaves), (m .says, m .leaves))
 
@@ -128,10 +145,10 @@ shown-at-known κs p g x y e f l m = (l .0, l .1, m .0, m .1)
 
 pub read-at-known : (κs : Lfts 1) (p : ℕ × ℕ) (g : ℕ) (x y : Found) (e f : AtExit (endedOf 1 read-at-k.ps read-at-k.r) κs)
     → read-at.Learnt κs (lent p g sample, (5, tt)) x e → read-at.Learnt κs (lent p g sample, (9, tt)) y f
-    → (x ≡ record { step = Record (cycle false true false 8 0 21); next = 6 }) × (y ≡ record { step = No 9; next = 9 })
+    → (x ≡ record { step = Record (cycleWith 8 true false false false 0 21 0 0 false); next = 6 }) × (y ≡ record { step = No 9; next = 9 })
 unfolding allComputed
 read-at-known κs p g x y e f l m = (
-  finds-only sample 5 x (record { step = Record (cycle false true false 8 0 21); next = 6 }) l ((refl, refl), refl),
+  finds-only sample 5 x (record { step = Record (cycleWith 8 true false false false 0 21 0 0 false); next = 6 }) l ((refl, refl), refl),
   finds-only sample 9 y (record { step = No 9; next = 9 }) m ((refl, refl), refl),
 )
 

@@ -188,7 +188,7 @@ dma-answers a b c h =
 
 -- a DMA write at segment 0, offset 0, with the reset line on or off
 dmaWrite : (reset : Bool) → Cycle
-dmaWrite reset = cycleWith 8 false false true false 0 0 0 reset
+dmaWrite reset = cycleWith 8 false false true false 0 0 0 0 reset
 
 -- MR %C0 is cleared by a reset and written by a command
 pub dma-leaves-needs : DmaLeavesNeeds
@@ -211,10 +211,10 @@ whole : Unit
 whole = unitWith 0x80 0 blank
 
 held : Unit
-held = unitHolding 0 0 0 (faultsOf 0 0 0 0) 0 0 (notesOf false false false true) 0 blank
+held = unitHolding 0 0 0 (faultsOf 0 0 0 0 0) 0 0 (notesOf false false false true) 0 blank
 
 broken : Unit
-broken = unitHolding 0x80 64 0 (faultsOf 0 0 0 0) 0 0 noNote 0 blank
+broken = unitHolding 0x80 64 0 (faultsOf 0 0 0 0 0) 0 0 noNote 0 blank
 
 withFlags : (attributes : ℕ) → Unit
 withFlags a = unitWith 0xC0 0 (segment 0 0xFF a)

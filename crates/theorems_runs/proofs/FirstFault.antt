@@ -63,7 +63,7 @@ all-kept : (v : ℕ) → Kept v v
 all-kept v = (λ e. e, (λ e. e, (λ e. e, (λ e. e, (λ e. e, (λ e. e, refl))))))
 
 kept-refl : (r : Registers) → FaultKept r r
-kept-refl r = record { flags = all-kept (r .faults .vtr); vsn = refl; voff = refl; bcsr = refl; isn = refl; ioff = refl }
+kept-refl r = record { flags = all-kept (r .faults .vtr); vsn = refl; voff = refl; bcsr = refl; low = refl; isn = refl; ioff = refl }
 
 kept-then : {r s t : Registers} → FaultKept r s → FaultKept s t → FaultKept r t
 kept-then {r} {s} {t} a b =
@@ -75,6 +75,7 @@ kept-then {r} {s} {t} a b =
       vsn = b .vsn ∙ a .vsn;
       voff = b .voff ∙ a .voff;
       bcsr = b .bcsr ∙ a .bcsr;
+      low = b .low ∙ a .low;
       isn = b .isn ∙ a .isn;
       ioff = b .ioff ∙ a .ioff;
     }
@@ -124,6 +125,7 @@ module _ (u : Unit) (c : Cycle) (p : faulted (u .registers)) where
           vsn = s .vsn ∙ old _ _ _ no-fault;
           voff = s .voff ∙ old _ _ _ no-fault;
           bcsr = s .bcsr ∙ old _ _ _ no-fault;
+          low = s .low ∙ old _ _ _ no-fault;
           isn = s .isn ∙ old _ _ _ no-fetch;
           ioff = s .ioff ∙ old _ _ _ no-fetch;
         },

@@ -22,6 +22,7 @@ pub mod Notes
 pub mod Reported
 pub mod SegmentNumbers
 pub mod FirstFault
+pub mod LowByte
 pub mod Wider
 pub mod Descriptors
 pub mod Dma

@@ -75,7 +75,7 @@ controlBy false false false false c k = k
 
 -- what stands beside the VTR after a cycle that stores it or not, from the registers before: the faults, with no VTR
 abbrev pub companions : (stores : Bool) → Cycle → Registers → Faults
-companions stores c r = cond stores (faultsOf 0 (sevenBits c) (c .offset) (busStatus c)) (withVtr r 0 .faults)
+companions stores c r = cond stores (faultsOf 0 (sevenBits c) (c .offset) (busStatus c) (c .low)) (withVtr r 0 .faults)
 
 -- and ISN and IOFF
 abbrev pub instruction : (stores : Bool) → Cycle → Registers → Fetched

@@ -198,7 +198,7 @@ reported-from-power-on cs c = violation-reported (final powerOn cs) c (always Ow
 -- MR %E0, segment 1 from %FF down, and a VTR and an own made by hand
 faultedUnit : (vtr : ℕ) → (own : Bool) → Unit
 faultedUnit vtr own =
-    unitOf (blank ∷ segment 0 0xFF DIRW ∷ replicate 62 blank) 0xE0 0 0 (faultsOf vtr 0 0 0) 0 0 (notesOf false false own false)
+    unitOf (blank ∷ segment 0 0xFF DIRW ∷ replicate 62 blank) 0xE0 0 0 (faultsOf vtr 0 0 0 0) 0 0 (notesOf false false own false)
 
 -- VTR %02, own without request; a system write at segment 65, offset %00, adds SLV and asks for nothing
 pub own-needed : OwnNeeded

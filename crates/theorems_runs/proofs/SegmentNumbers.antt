@@ -1,4 +1,4 @@
--- Which cycle stores VSN, VOFF and BCSR, or ISN and IOFF, and what bit 6 of VSN and ISN tells.
+-- Which cycle stores VSN, VOFF, BCSR and the low byte, or ISN and IOFF, and what bit 6 of VSN and ISN tells.
 -- Assumes nothing.
 use mathlib.Core.Path.{_≡_, refl, sym, _∙_, ap, subst}
 use mathlib.Core.Bool.{Bool, true, false, cond, not, _&&_, _||_, Bool·beq, true≢false, false≢true}
@@ -167,6 +167,7 @@ stored-exactly u c =
           ∙ part-stored (λ (f : Faults). f .vsn) (storesFault u c) _ _ (c .segment) (λ e. whole u c (fault-translated u c e));
       voff = ap (λ (f : Faults). f .voff) first ∙ part-stored (λ (f : Faults). f .voff) (storesFault u c) _ _ (c .offset) (λ e. refl);
       bcsr = ap (λ (f : Faults). f .bcsr) first ∙ part-stored (λ (f : Faults). f .bcsr) (storesFault u c) _ _ (busStatus c) (λ e. refl);
+      low = ap (λ (f : Faults). f .low) first ∙ part-stored (λ (f : Faults). f .low) (storesFault u c) _ _ (c .low) (λ e. refl);
       isn =
           ap (λ (f : Fetched). f .isn) start
           ∙ part-stored (λ (f : Fetched). f .isn) (storesFetch u c) _ _ (c .segment) (λ e. whole u c (fetch-translated u c e));

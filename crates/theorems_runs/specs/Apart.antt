@@ -15,7 +15,7 @@ use Rattle.theorems_runs.specs.Sequences.{all}
 
 -- every set and clear command has something to do here: MR %C0, DSCR 3, VTR %E0, the trap line stands; all else as at power-on
 abbrev pub standing : Unit
-standing = unitOf (powerOn .table) 0xC0 0 3 (faultsOf 0xE0 0 0 0) 0 0 (notesOf true false false false)
+standing = unitOf (powerOn .table) 0xC0 0 3 (faultsOf 0xE0 0 0 0 0) 0 0 (notesOf true false false false)
 
 -- a command that writes %01
 abbrev pub put : (code : ℕ) → Cycle

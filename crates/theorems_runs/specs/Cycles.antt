@@ -85,4 +85,4 @@ writes n c = not (outOfRange c) && selectedCommand c && write c && eqb (c .offse
 
 -- a CPU write in system mode with select on, by its status, its code, its data byte and the reset line
 abbrev pub written : (status code byte : ℕ) → (reset : Bool) → Cycle
-written status code byte reset = cycleWith status false false false true 0 code byte reset
+written status code byte reset = cycleWith status false false false true 0 code 0 byte reset

@@ -34,6 +34,7 @@ pub record FaultKept (r s : Registers) : Type 0 where
   pub vsn : s .faults .vsn ≡ r .faults .vsn
   pub voff : s .faults .voff ≡ r .faults .voff
   pub bcsr : s .faults .bcsr ≡ r .faults .bcsr
+  pub low : s .faults .low ≡ r .faults .low
   pub isn : s .fetched .isn ≡ r .fetched .isn
   pub ioff : s .fetched .ioff ≡ r .fetched .ioff
 
@@ -46,7 +47,7 @@ abbrev pub WipesNot : Unit → Cycle → Type 0
 WipesNot u c = wipes u c ≡ false
 
 -- CLAIM: while a primary flag stands ("addresses stay", ISN and IOFF are stored "while VTR is zero"), no primary flag goes and VSN, VOFF, BCSR,
--- ISN and IOFF do not change, until one of the three comes unrefused. Acknowledges, clear SWW and clear FATL, refused cycles and all else may
+-- the low byte, ISN and IOFF do not change, until one of the three comes unrefused. Acknowledges, clear SWW and clear FATL, refused cycles and all else may
 -- come, in any unit, damaged or not.
 abbrev pub FirstFaultKept : Type 0
 FirstFaultKept = KeptFrom faulted WipesNot
@@ -57,7 +58,7 @@ FlagNeeded = KeptFrom (λ r. true ≡ true) WipesNot → ⊥
 
 -- a unit with this VTR, all else as at power-on
 abbrev pub faultedBy : (vtr : ℕ) → Unit
-faultedBy vtr = unitHolding 0 0 0 (faultsOf vtr 0 0 0) 0 0 noNote 0 blank
+faultedBy vtr = unitHolding 0 0 0 (faultsOf vtr 0 0 0 0) 0 0 noNote 0 blank
 
 -- CLAIM: each of the three does wipe it: a reset, a software reset, clear VTR. So none of them can be left out above.
 abbrev pub EachWipes : Type 0

@@ -10,6 +10,7 @@ pub mod Descriptors
 pub mod Reported
 pub mod SegmentNumbers
 pub mod FirstFault
+pub mod LowByte
 pub mod Dma
 pub mod Trap
 pub mod Notes

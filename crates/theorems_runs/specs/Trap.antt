@@ -32,7 +32,7 @@ TrapStands =
 
 -- a unit whose trap line stands, all else as at power-on
 abbrev pub requesting : Unit
-requesting = unitOf (powerOn .table) 0 0 0 (faultsOf 0 0 0 0) 0 0 (notesOf true false false false)
+requesting = unitOf (powerOn .table) 0 0 0 (faultsOf 0 0 0 0 0) 0 0 (notesOf true false false false)
 
 -- CLAIM: each of the three does take it back: an acknowledge, a reset, a software reset. So none of them can be left out above.
 abbrev pub EachTakesBack : Type 0

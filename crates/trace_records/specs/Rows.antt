@@ -37,11 +37,11 @@ recordRows =
     ∷ recordRow (twoRecords 2) 2 6 0 []
     ∷ []
 
--- a part of a trace, and its cycle
+-- a part of a trace, and its cycle; ticket 8: "Version 1 traces give 0."
 abbrev pub decodedRow : (part : List ℕ) → (status : ℕ) → (read normal dma select : Bool)
     → (segment : ℕ) → (reset : Bool) → (offset byte : ℕ) → List ℕ × Cycle
 decodedRow part status read normal dma select segment reset offset byte =
-    (part, cycleWith status read normal dma select segment offset byte reset)
+    (part, cycleWith status read normal dma select segment offset 0 byte reset)
 
 abbrev pub decodedRows : List (List ℕ × Cycle)
 decodedRows =

@@ -72,7 +72,8 @@ Shows t n p = (now p ≡ partOf (now t) n) × (p .ptr ≡ (t .ptr .0, partStart 
 -- ---- what a record says
 
 -- "Byte 0: bits 0 to 5 as BCSR, bit 6 DMA, bit 7 select. Byte 1: segment, bit 7 reset line. Byte 2: address-phase byte.
--- Byte 3: data, any value." BCSR has the status in bits 0 to 3, "bit 4 set for read, bit 5 set for normal mode"
+-- Byte 3: data, any value." BCSR has the status in bits 0 to 3, "bit 4 set for read, bit 5 set for normal mode"; ticket 8, of the low byte:
+-- "Version 1 traces give 0."
 unfoldable pub cycleOf : (part : List ℕ) → Cycle
 cycleOf p = record {
   status = getD p statusAt 0 % STATUSES;
@@ -83,6 +84,7 @@ cycleOf p = record {
   segment = getD p segmentAt 0 % NUMBERS;
   reset = has (getD p segmentAt 0) RESET;
   offset = getD p offsetAt 0;
+  low = 0;
   byte = getD p dataAt 0;
 }
 

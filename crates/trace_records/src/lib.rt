@@ -58,7 +58,7 @@ pub fn part(trace: &[u8], n: usize) -> &[u8]
     &trace[0..0]
 }
 
-// The cycle of a record's four bytes. In a shorter part the bytes that are missing count as 0, and in a longer one the first four are read.
+// The cycle of a record's four bytes, which have no low byte: it is 0. In a shorter part the bytes that are missing count as 0, and in a longer one the first four are read.
 pub fn decode(part: &[u8]) -> Cycle
     ensures { λ c. ⌜ c ≡ cycleOf (now (part .entry)) ⌝ }
 {
@@ -74,6 +74,7 @@ pub fn decode(part: &[u8]) -> Cycle
         select: b0 & SELECT != 0,
         segment: b1 % Unit::NUMBERS,
         offset: b2,
+        low: 0,
         byte: b3,
         reset: b1 & RESET != 0,
     }

@@ -1,4 +1,4 @@
--- What one turn does in the two loops over a table.
+-- What one turn does in the two loops over a table, and the byte behind it.
 -- Assumes nothing.
 use mathlib.Core.Path.{_≡_, refl, sym, ap, _∙_}
 use mathlib.Core.List.{List, [], _∷_, _++_}
@@ -9,7 +9,8 @@ use lib.Seq.{sets, take-suc, take-suc-set, length-take-le}
 use Rattle.rules.specs.PowerOn.{blank}
 use Rattle.rules.specs.declared.Descriptor.{Descriptor}
 use Rattle.unit_stores.proofs.Laws.{sets-append}
-use Rattle.unit_bytes.specs.Snapshot.{tableAt, descriptorSize, descriptorAt, descriptorIn, tableIn, descriptorBytes, tableBytes}
+use Rattle.unit_bytes.specs.Snapshot.{tableAt, descriptorSize, segments, descriptorAt, lowAt}
+use Rattle.unit_bytes.specs.Snapshot.{descriptorIn, tableIn, descriptorBytes, tableBytes}
 
 pub table-more : (t : List Descriptor) (d : Descriptor) → tableBytes (t ++ (d ∷ [])) ≡ tableBytes t ++ descriptorBytes d
 unfolding tableBytes descriptorBytes
@@ -33,6 +34,13 @@ descriptor-stored o t i h =
     ap (λ (k : ℕ). sets (sets o tableAt first) (tableAt + k) (descriptorBytes d)) (sym long)
     ∙ sets-append o tableAt first (descriptorBytes d)
     ∙ ap (sets o tableAt) (sym (ap tableBytes (take-suc t i blank h) ∙ table-more (take i t) d))
+
+-- the low byte is stored behind them all
+pub low-stored : (o : List ℕ) (t : List Descriptor) (low : ℕ) → length t ≡ segments
+    → set (sets o tableAt (tableBytes t)) lowAt low ≡ sets o tableAt (tableBytes t ++ (low ∷ []))
+low-stored o t low size =
+    ap (λ (k : ℕ). set (sets o tableAt (tableBytes t)) (tableAt + k) low) (sym (table-length t ∙ ap (λ (n : ℕ). descriptorSize * n) size))
+    ∙ sets-append o tableAt (tableBytes t) (low ∷ [])
 
 -- one descriptor more is read
 pub descriptor-read : (l : List ℕ) (t : List Descriptor) (i : ℕ) → i < length t → take i t ≡ tableIn l i

@@ -1,4 +1,5 @@
--- A unit record as 266 bytes: MR, SAR, DSCR, VTR, VSN, VOFF, BCSR, ISN, IOFF and the notes; then four bytes for each descriptor.
+-- A unit record as 267 bytes: MR, SAR, DSCR, VTR, VSN, VOFF, BCSR, ISN, IOFF and the notes; then four bytes for each descriptor; then the low
+-- byte.
 use mathlib.Core.List.{List, [], _∷_, _++_}
 use Prim.Native.Nat.{ℕ, zero, suc, _+_, _*_}
 use lib.ListN.{getD}
@@ -55,15 +56,19 @@ attributesAt = 3
 abbrev pub descriptorSize : ℕ
 descriptorSize = 4
 
--- how many descriptors there are, where one stands, and the bytes of a unit
+-- how many descriptors there are, and where one stands
 abbrev pub segments : ℕ
 segments = 64
 
 abbrev pub descriptorAt : (n : ℕ) → ℕ
 descriptorAt n = tableAt + descriptorSize * n
 
+-- ticket 8: the low byte stands last, so every other place is as it was; and the bytes of a unit
+abbrev pub lowAt : ℕ
+lowAt = descriptorAt segments
+
 abbrev pub unitSize : ℕ
-unitSize = descriptorAt segments
+unitSize = lowAt + 1
 
 -- the notes' bits, and the largest byte that is made of them
 abbrev pub REQUEST : ℕ
@@ -103,7 +108,7 @@ notesIn b = notesOf (has b REQUEST) (has b AWAIT) (has b OWN) (has b HOLD)
 unfoldable pub registersIn : List ℕ → Registers
 registersIn l = record {
   control = record { mr = getD l mrAt 0; sar = getD l sarAt 0; dscr = getD l dscrAt 0 };
-  faults = faultsOf (getD l vtrAt 0) (getD l vsnAt 0) (getD l voffAt 0) (getD l bcsrAt 0);
+  faults = faultsOf (getD l vtrAt 0) (getD l vsnAt 0) (getD l voffAt 0) (getD l bcsrAt 0) (getD l lowAt 0);
   fetched = record { isn = getD l isnAt 0; ioff = getD l ioffAt 0 };
   notes = notesIn (getD l notesAt 0);
 }
@@ -128,6 +133,7 @@ notesByte n =
     (flagIf (n .own) OWN))
     (flagIf (n .hold) HOLD)
 
+-- of the registers, all but the low byte
 unfoldable pub registerBytes : Registers → List ℕ
 registerBytes r =
     r .control .mr ∷ r .control .sar ∷ r .control .dscr
@@ -136,4 +142,4 @@ registerBytes r =
     ∷ notesByte (r .notes) ∷ []
 
 unfoldable pub unitBytes : Unit → List ℕ
-unitBytes u = registerBytes (u .registers) ++ tableBytes (u .table)
+unitBytes u = registerBytes (u .registers) ++ tableBytes (u .table) ++ (u .registers .faults .low ∷ [])

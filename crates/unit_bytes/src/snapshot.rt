@@ -1,5 +1,6 @@
-// A unit record as bytes: the registers, the notes, and the descriptors.
+// A unit record as bytes: the registers, the notes, the descriptors, and the low byte.
 ghost use mathlib.Core.Path.{_≡_};
+ghost use mathlib.Core.List.{[], _∷_, _++_};
 ghost use Prim.Native.Nat.{_*_, _+_, _≤_};
 ghost use lib.ListN.{length};
 ghost use lib.Seq.{sets};
@@ -40,14 +41,17 @@ pub const NOTES: usize = 9;
 
 pub const TABLE: usize = 10;
 
-// Where limit and attributes stand in a descriptor's bytes, behind the base; how many these are, and those of a unit.
+// Where limit and attributes stand in a descriptor's bytes, behind the base, and how many these are.
 const LIMIT: usize = 2;
 
 const ATTRIBUTES: usize = 3;
 
 pub const DESCRIPTOR: usize = 4;
 
-pub const BYTES: usize = TABLE + DESCRIPTOR * Unit::DESCRIPTORS;
+// Where the low byte stands, and the bytes of a unit.
+pub const LOW: usize = TABLE + DESCRIPTOR * Unit::DESCRIPTORS;
+
+pub const BYTES: usize = LOW + 1;
 
 // The bits of the notes, and the largest byte that is made of them.
 pub const REQUEST: u8 = 1;
@@ -101,9 +105,9 @@ fn notes_in(byte: u8) -> Notes
     }
 }
 
-// The registers of the first bytes of a unit.
+// The registers of a unit's bytes.
 pub fn registers_in(bytes: &[u8]) -> Registers
-    requires { ⌜ tableAt ≤ length (now bytes) ⌝ }
+    requires { ⌜ unitSize ≤ length (now bytes) ⌝ }
     ensures { λ r. ⌜ r ≡ registersIn (now (bytes .entry)) ⌝ }
 {
     Registers {
@@ -117,6 +121,7 @@ pub fn registers_in(bytes: &[u8]) -> Registers
             vsn: bytes[VSN],
             voff: bytes[VOFF],
             bcsr: bytes[BCSR],
+            low: bytes[LOW],
         },
         fetched: Fetched {
             isn: bytes[ISN],
@@ -148,15 +153,16 @@ pub fn put_descriptor(out: &mut [u8], at: usize, d: Descriptor)
     out[at + ATTRIBUTES] = d.attributes;
 }
 
-// A table's bytes stored at their place.
-fn put_table(out: &mut [u8], table: [Descriptor; Unit::DESCRIPTORS])
+// A table's bytes stored at their place, and behind them the low byte.
+fn put_table(out: &mut [u8], table: [Descriptor; Unit::DESCRIPTORS], low: u8)
     requires { ⌜ unitSize ≤ length (now out) ⌝ }
-    ensures { λ _. ⌜ now (out .exit) ≡ sets (now (out .entry)) tableAt (tableBytes table) ⌝ }
+    ensures { λ _. ⌜ now (out .exit) ≡ sets (now (out .entry)) tableAt (tableBytes table ++ (low ∷ [])) ⌝ }
 {
     for i in 0..Unit::DESCRIPTORS {
         let d = table[i];
         put_descriptor(out, TABLE + DESCRIPTOR * i, d);
     }
+    out[LOW] = low;
 }
 
 // The notes in a byte.
@@ -169,8 +175,8 @@ fn notes_byte(n: Notes) -> u8
         | flag_if(n.hold, HOLD)
 }
 
-// The registers' bytes stored at the start.
-pub fn put_registers(out: &mut [u8], r: Registers)
+// The registers' bytes stored at the start, all but the low byte.
+fn put_registers(out: &mut [u8], r: Registers)
     requires { ⌜ tableAt ≤ length (now out) ⌝ }
     ensures { λ _. ⌜ now (out .exit) ≡ sets (now (out .entry)) 0 (registerBytes r) ⌝ }
 {
@@ -196,5 +202,5 @@ pub fn put_unit(out: &mut [u8], u: Unit)
     let registers = u.registers;
     let table = u.table;
     put_registers(out, registers);
-    put_table(out, table);
+    put_table(out, table, u.registers.faults.low);
 }

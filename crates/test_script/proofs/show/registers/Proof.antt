@@ -7,7 +7,7 @@ use Rattle.test_script.proofs.show.registers.Statement.{statement}
 use Rattle.test_script.proofs.show.registers.Tie as tie
 
 abbrev Inv-loop : tie.InvT-loop
-Inv-loop bytes line₀ i₀ line i = (i ≤ 10) × (length line ≡ 32)
+Inv-loop bytes line₀ i₀ line i = (i ≤ 10) × (length line ≡ 35)
 
 abbrev μ-loop : tie.MeasureT-loop
 μ-loop bytes line₀ i₀ line i = 10 - i
@@ -27,6 +27,11 @@ registers-spec =
     (λ c. search needs)
     (λ c. search needs)
     (λ c. search needs)
+    (λ c. search needs)
+    (λ c. search needs)
+    (λ c. search needs)
+    (λ c. search needs)
+    (λ c κs. search needs)
     (λ c. search needs)
     (λ c κs. search needs)
     (λ c. search needs))

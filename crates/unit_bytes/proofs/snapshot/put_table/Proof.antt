@@ -1,26 +1,27 @@
--- `unit_bytes::snapshot::put_table` meets its contract: after i turns the bytes of the first i descriptors are stored. Assumes nothing.
+-- `unit_bytes::snapshot::put_table` meets its contract: after i turns the bytes of the first i descriptors are stored, and the low byte goes behind
+-- them all. Assumes nothing.
 use mathlib.Core.Path.{_≡_, refl, sym, ap, _∙_}
 use mathlib.Core.List.{List}
 use Prim.Native.Nat.{ℕ, _≤_, _-_}
 use native.Mathlib.Numerals.{add-one}
 use native.Mathlib.Omega.{arith}
-use lib.ListN.{length, getD, take}
+use lib.ListN.{length, getD, set, take}
 use lib.Seq.{sets, take-all, length-sets}
 use borrow.Author.Needs.{needs}
 use Rattle.rules.specs.PowerOn.{blank}
 use Rattle.rules.specs.declared.Descriptor.{Descriptor}
-use Rattle.unit_bytes.specs.Snapshot.{tableAt, segments, descriptorAt, unitSize, descriptorBytes, tableBytes}
-use Rattle.unit_bytes.proofs.Tables.{descriptor-stored}
+use Rattle.unit_bytes.specs.Snapshot.{tableAt, segments, descriptorAt, lowAt, unitSize, descriptorBytes, tableBytes}
+use Rattle.unit_bytes.proofs.Tables.{descriptor-stored, low-stored}
 use Rattle.unit_bytes.proofs.snapshot.put_table.Statement.{statement}
 use Rattle.unit_bytes.proofs.snapshot.put_table.Tie as tie
 
 abbrev Inv-loop : tie.InvT-loop
-Inv-loop out₀ table i₀ out i =
+Inv-loop out₀ low table i₀ out i =
     (out ≡ sets out₀ tableAt (tableBytes (take i table))) × (i ≤ segments) × (length table ≡ segments) × (length out ≡ length out₀)
     × (unitSize ≤ length out₀)
 
 abbrev μ-loop : tie.MeasureT-loop
-μ-loop out₀ table i₀ out i = segments - i
+μ-loop out₀ low table i₀ out i = segments - i
 
 loop-holds : tie.Need-loop-holds Inv-loop μ-loop
 unfolding tableBytes
@@ -51,8 +52,9 @@ returns : tie.Need-returns Inv-loop μ-loop
 returns c =
     let at : tie.At-loop Inv-loop μ-loop = c .before in
     let start = at .before .before .args in
-    at .loop .inv .0
-    ∙ ap (λ (t : List Descriptor). sets (start .out .now) tableAt (tableBytes t)) (take-all (at .loop .i) (start .t2) (omega arith))
+    ap (λ (l : List ℕ). set l lowAt (start .low)) (at .loop .inv .0
+    ∙ ap (λ (t : List Descriptor). sets (start .out .now) tableAt (tableBytes t)) (take-all (at .loop .i) (start .t2) (omega arith)))
+    ∙ low-stored (start .out .now) (start .t2) (start .low) (at .loop .inv .2)
 
 pub put-table-spec : {M : Type 1} → statement M
 put-table-spec =
@@ -69,5 +71,6 @@ put-table-spec =
     (λ c. search needs)
     (λ c. search needs)
     loop-again
+    (λ c. search needs)
     (λ c. search needs)
     returns)

@@ -1,6 +1,6 @@
--- `unit_bytes::snapshot::put_unit` meets its contract: the table's bytes stored after the registers' are the unit's bytes stored. Assumes nothing.
+-- `unit_bytes::snapshot::put_unit` meets its contract: what is stored after the registers' bytes makes them the unit's. Assumes nothing.
 use mathlib.Core.Path.{_≡_, ap, _∙_}
-use mathlib.Core.List.{List}
+use mathlib.Core.List.{List, [], _∷_, _++_}
 use Prim.Native.Nat.{ℕ}
 use lib.Seq.{sets}
 use Rattle.rules.specs.declared.Unit.{Unit}
@@ -11,9 +11,9 @@ use Rattle.unit_bytes.proofs.snapshot.put_unit.Statement.{statement}
 use Rattle.unit_bytes.proofs.snapshot.put_unit.Tie as tie
 
 both : (o : List ℕ) (u : Unit)
-    → sets (sets o 0 (registerBytes (u .registers))) tableAt (tableBytes (u .table)) ≡ sets o 0 (unitBytes u)
+    → sets (sets o 0 (registerBytes (u .registers))) tableAt (tableBytes (u .table) ++ (u .registers .faults .low ∷ [])) ≡ sets o 0 (unitBytes u)
 unfolding unitBytes registerBytes
-both o u = sets-append o 0 (registerBytes (u .registers)) (tableBytes (u .table))
+both o u = sets-append o 0 (registerBytes (u .registers)) (tableBytes (u .table) ++ (u .registers .faults .low ∷ []))
 
 returns : tie.Need-returns
 returns c =
@@ -22,7 +22,7 @@ returns c =
     let begun = registers .before .before .before in
     let start = begun .before .before .args in
     table .put-table .ensures
-    ∙ ap (λ (l : List ℕ). sets l tableAt (tableBytes (start .u .table))) (registers .put-registers .ensures)
+    ∙ ap (λ (l : List ℕ). sets l tableAt (tableBytes (start .u .table) ++ (start .u .registers .faults .low ∷ []))) (registers .put-registers .ensures)
     ∙ both (start .out .now) (start .u)
 
 pub put-unit-spec : {M : Type 1} → statement M
