@@ -49,11 +49,11 @@ static int refusal(size_t length)
     return length == HEAD + RECORD * (size_t)pair(5) ? 0 : DISTANTARM_LENGTH;
 }
 
-/* The cycle of a record's four bytes. */
+/* The cycle of a record's four bytes, which have no low byte: it is 0. */
 static void step(uint8_t *unit, uint8_t *answer, const uint8_t *record)
 {
     uint8_t number = distantarm_cycle(unit, DISTANTARM_UNIT_BYTES, answer, DISTANTARM_ANSWER_BYTES, record[0] % 16, record[0] & 16,
-                                      record[0] & 32, record[0] & 64, record[0] & 128, record[1] % 128, record[2], record[3],
+                                      record[0] & 32, record[0] & 64, record[0] & 128, record[1] % 128, record[2], 0, record[3],
                                       record[1] & 128);
 
     if (number != answer[DISTANTARM_NUMBER]) {

@@ -1,6 +1,7 @@
 /* distantarm_vpi: the proved unit as system tasks of a Verilog simulator (VPI), for benches that compare logic of their own with it.
  *   $distantarm_power_on;            one unit, kept here, at power-on
- *   $distantarm_cycle(record)        a cycle, from the 32 bits of a trace record; its packed answer, 48 bits, the kind's letter on top
+ *   $distantarm_cycle(record)        a cycle, from the 32 bits of a trace record, with 0 for its low byte; its packed answer, 48 bits, the
+ *                                    kind's letter on top
  *   $distantarm_unit(index)          a byte of the unit, laid out as distantarm.h says; 0 past its end */
 #include <vpi_user.h>
 
@@ -53,7 +54,7 @@ static PLI_INT32 cycle(PLI_BYTE8 *unused)
 
     (void)unused;
     distantarm_cycle(unit, sizeof unit, answer, sizeof answer, record >> 24 & 15, record >> 28 & 1, record >> 29 & 1, record >> 30 & 1,
-                     record >> 31 & 1, record >> 16 & 127, (uint8_t)(record >> 8), (uint8_t)record, record >> 23 & 1);
+                     record >> 31 & 1, record >> 16 & 127, (uint8_t)(record >> 8), 0, (uint8_t)record, record >> 23 & 1);
     for (i = 0; i < DISTANTARM_ANSWER_BYTES; i++)
         packed = packed << 8 | answer[i];
     give(call, packed);

@@ -1,6 +1,7 @@
-/* interface: what distantarm.h says, tried through C. Where the registers, notes and descriptors stand and each kind of answer; then all
- * that is refused: buffers that are too short, damaged units, orphans in the VTR, strange notes, cycles out of range, commands that are
- * not there. A refusal must give its number and leave what it says it leaves. Status 0 if all is so, else 1. */
+/* interface: what distantarm.h says, tried through C. Where the registers, notes, descriptors and the low byte stand and each kind of
+ * answer; every low byte; then all that is refused: buffers that are too short, damaged units, orphans in the VTR, strange notes, cycles
+ * out of range, commands that are not there. A refusal must give its number and leave what it says it leaves. Status 0 if all is so, else
+ * 1. */
 #include <stdio.h>
 #include <string.h>
 
@@ -21,50 +22,53 @@ static void expect(bool holds, const char *what)
 
 /* A selected cycle of the CPU. */
 struct cycle {
-    uint8_t status, segment, offset, byte;
+    uint8_t status, segment, offset, low, byte;
     bool read, normal, reset;
 };
 
 /* a read of the VTR; a cycle out of range */
-static const struct cycle plain = {3, 0, 0x02, 0, true, false, false}, outside = {16, 128, 0x12, 0, true, false, false};
+static const struct cycle plain = {3, 0, 0x02, 0x5A, 0, true, false, false}, outside = {16, 128, 0x12, 0x5A, 0, true, false, false};
 
 static uint8_t call(uint8_t *unit, size_t unit_length, uint8_t *answer, size_t answer_length, struct cycle c)
 {
-    return distantarm_cycle(unit, unit_length, answer, answer_length, c.status, c.read, c.normal, false, true, c.segment, c.offset, c.byte,
-                            c.reset);
+    return distantarm_cycle(unit, unit_length, answer, answer_length, c.status, c.read, c.normal, false, true, c.segment, c.offset, c.low,
+                            c.byte, c.reset);
 }
 
-/* Cycles one after another from power-on: the kind of each, and a byte of the unit after it. Descriptor 7 begins at byte 38. */
+/* Cycles one after another from power-on: the kind of each, and a byte of the unit after it. Descriptor 7 begins at byte 38. Each cycle has
+ * the number of its row, from 1, for its low byte: the ninth and the twentieth are first entries in the VTR. */
 static const struct row {
     struct cycle c;
     int kind, at, value;
 } rows[] = {
-    {{3, 0, 0x00, 0xC5, false, false, false}, DISTANTARM_COMMAND, DISTANTARM_MR, 0xC5},
-    {{3, 0, 0x01, 7, false, false, false}, DISTANTARM_COMMAND, DISTANTARM_SAR, 7},
-    {{3, 0, 0x0B, 0x12, false, false, false}, DISTANTARM_COMMAND, DISTANTARM_DSCR, 1},
-    {{3, 0, 0x0B, 0x34, false, false, false}, DISTANTARM_COMMAND, DISTANTARM_TABLE + DISTANTARM_DESCRIPTOR_BYTES * 7 + 1, 0x34},
-    {{3, 0, 0x0B, 2, false, false, false}, DISTANTARM_COMMAND, DISTANTARM_TABLE + DISTANTARM_DESCRIPTOR_BYTES * 7 + 2, 2},
-    {{3, 0, 0x0B, 1, false, false, false}, DISTANTARM_COMMAND, 38, 0x12},
-    {{13, 7, 0x01, 0, true, false, false}, DISTANTARM_TRANSLATED, DISTANTARM_ISN, 7},
-    {{13, 7, 0x02, 0, true, false, false}, DISTANTARM_TRANSLATED, DISTANTARM_IOFF, 2},
-    {{8, 7, 0x93, 0, false, true, false}, DISTANTARM_TRANSLATED, DISTANTARM_VTR, 5},
-    {{0, 0, 0, 0, true, false, false}, DISTANTARM_IGNORED, DISTANTARM_VSN, 7},
-    {{0, 0, 0, 0, true, false, false}, DISTANTARM_IGNORED, DISTANTARM_VOFF, 0x93},
-    {{0, 0, 0, 0, true, false, false}, DISTANTARM_IGNORED, DISTANTARM_BCSR, 0x28},
-    {{0, 0, 0, 0, true, false, false}, DISTANTARM_IGNORED, DISTANTARM_NOTES,
+    {{3, 0, 0x00, 1, 0xC5, false, false, false}, DISTANTARM_COMMAND, DISTANTARM_MR, 0xC5},
+    {{3, 0, 0x01, 2, 7, false, false, false}, DISTANTARM_COMMAND, DISTANTARM_SAR, 7},
+    {{3, 0, 0x0B, 3, 0x12, false, false, false}, DISTANTARM_COMMAND, DISTANTARM_DSCR, 1},
+    {{3, 0, 0x0B, 4, 0x34, false, false, false}, DISTANTARM_COMMAND, DISTANTARM_TABLE + DISTANTARM_DESCRIPTOR_BYTES * 7 + 1, 0x34},
+    {{3, 0, 0x0B, 5, 2, false, false, false}, DISTANTARM_COMMAND, DISTANTARM_TABLE + DISTANTARM_DESCRIPTOR_BYTES * 7 + 2, 2},
+    {{3, 0, 0x0B, 6, 1, false, false, false}, DISTANTARM_COMMAND, 38, 0x12},
+    {{13, 7, 0x01, 7, 0, true, false, false}, DISTANTARM_TRANSLATED, DISTANTARM_ISN, 7},
+    {{13, 7, 0x02, 8, 0, true, false, false}, DISTANTARM_TRANSLATED, DISTANTARM_IOFF, 2},
+    {{8, 7, 0x93, 9, 0, false, true, false}, DISTANTARM_TRANSLATED, DISTANTARM_VTR, 5},
+    {{0, 0, 0, 10, 0, true, false, false}, DISTANTARM_IGNORED, DISTANTARM_VSN, 7},
+    {{0, 0, 0, 11, 0, true, false, false}, DISTANTARM_IGNORED, DISTANTARM_VOFF, 0x93},
+    {{0, 0, 0, 12, 0, true, false, false}, DISTANTARM_IGNORED, DISTANTARM_BCSR, 0x28},
+    {{0, 0, 0, 13, 0, true, false, false}, DISTANTARM_IGNORED, DISTANTARM_NOTES,
      DISTANTARM_REQUEST + DISTANTARM_AWAIT + DISTANTARM_OWN + DISTANTARM_HOLD},
-    {{13, 7, 0x02, 0, true, false, false}, DISTANTARM_ABORTED, DISTANTARM_NOTES, DISTANTARM_REQUEST},
-    {{8, 7, 0x93, 0, false, true, false}, DISTANTARM_TRANSLATED, DISTANTARM_NOTES, DISTANTARM_REQUEST + DISTANTARM_AWAIT + DISTANTARM_HOLD},
-    {{4, 0, 0, 0, true, false, false}, DISTANTARM_ACKNOWLEDGE, DISTANTARM_NOTES, 0},
-    {{3, 0, 0x11, 0, false, false, false}, DISTANTARM_COMMAND, DISTANTARM_VTR, 0},
-    {{3, 0, 0x0A, 0x20, false, false, false}, DISTANTARM_COMMAND, 41, 0x20},
-    {{8, 7, 0x02, 0, false, false, false}, DISTANTARM_TRANSLATED, DISTANTARM_NOTES, DISTANTARM_REQUEST + DISTANTARM_AWAIT + DISTANTARM_OWN},
-    {{3, 0, 0x00, 0x80, false, false, false}, DISTANTARM_COMMAND, DISTANTARM_MR, 0x80},
-    {{8, 7, 0x02, 0, true, false, false}, DISTANTARM_PASSED, DISTANTARM_VTR, 0x20},
-    {{0, 0, 0, 0, true, false, true}, DISTANTARM_RESET, DISTANTARM_VTR, 0},
-    {{3, 0, 0x00, 0xE5, false, false, false}, DISTANTARM_COMMAND, DISTANTARM_MR, 0xE5},
-    {{13, 71, 0x03, 0, true, false, false}, DISTANTARM_TRANSLATED, DISTANTARM_ISN, 71},
-    {{8, 71, 0x01, 0, false, false, false}, DISTANTARM_TRANSLATED, DISTANTARM_VSN, 71},
+    {{0, 0, 0, 14, 0, true, false, false}, DISTANTARM_IGNORED, DISTANTARM_LOW, 9},
+    {{13, 7, 0x02, 15, 0, true, false, false}, DISTANTARM_ABORTED, DISTANTARM_NOTES, DISTANTARM_REQUEST},
+    {{8, 7, 0x93, 16, 0, false, true, false}, DISTANTARM_TRANSLATED, DISTANTARM_NOTES, DISTANTARM_REQUEST + DISTANTARM_AWAIT + DISTANTARM_HOLD},
+    {{4, 0, 0, 17, 0, true, false, false}, DISTANTARM_ACKNOWLEDGE, DISTANTARM_NOTES, 0},
+    {{3, 0, 0x11, 18, 0, false, false, false}, DISTANTARM_COMMAND, DISTANTARM_VTR, 0},
+    {{3, 0, 0x0A, 19, 0x20, false, false, false}, DISTANTARM_COMMAND, 41, 0x20},
+    {{8, 7, 0x02, 20, 0, false, false, false}, DISTANTARM_TRANSLATED, DISTANTARM_NOTES, DISTANTARM_REQUEST + DISTANTARM_AWAIT + DISTANTARM_OWN},
+    {{3, 0, 0x00, 21, 0x80, false, false, false}, DISTANTARM_COMMAND, DISTANTARM_MR, 0x80},
+    {{8, 7, 0x02, 22, 0, true, false, false}, DISTANTARM_PASSED, DISTANTARM_VTR, 0x20},
+    {{0, 0, 0, 23, 0, true, false, true}, DISTANTARM_RESET, DISTANTARM_VTR, 0},
+    {{0, 0, 0, 24, 0, true, false, true}, DISTANTARM_RESET, DISTANTARM_LOW, 20},
+    {{3, 0, 0x00, 25, 0xE5, false, false, false}, DISTANTARM_COMMAND, DISTANTARM_MR, 0xE5},
+    {{13, 71, 0x03, 26, 0, true, false, false}, DISTANTARM_TRANSLATED, DISTANTARM_ISN, 71},
+    {{8, 71, 0x01, 27, 0, false, false, false}, DISTANTARM_TRANSLATED, DISTANTARM_VSN, 71},
 };
 
 static void layout(void)
@@ -134,6 +138,32 @@ static void short_buffers(void)
     expect(memcmp(unit, unit_was, UNIT) == 0 && memcmp(answer, answer_was, ANSWER) == 0, "short buffers are left");
 }
 
+/* Every low byte over some others, in units that are alike but for it: the violation's own is kept, and nothing else differs. */
+static void low_bytes(void)
+{
+    static const uint8_t older[] = {0, 1, 127, 128, 254, 255};
+    struct cycle past = {8, 0, 0x01, 0, 0, false, false, false};
+    uint8_t unit[UNIT], answer[ANSWER], bare[UNIT], said[ANSWER];
+    size_t i;
+    int low;
+
+    for (i = 0; i < sizeof older; i++)
+        for (low = 0; low < 256; low++) {
+            distantarm_power_on(unit, UNIT);
+            unit[DISTANTARM_MR] = 0xC0;
+            unit[DISTANTARM_LOW] = older[i];
+            past.low = (uint8_t)low;
+            expect(call(unit, UNIT, answer, ANSWER, past) == 0, "a violation with a low byte");
+            expect(unit[DISTANTARM_VOFF] == 0x01 && unit[DISTANTARM_LOW] == low, "the low byte is kept with VOFF");
+            unit[DISTANTARM_LOW] = 0;
+            if (i == 0 && low == 0) {
+                memcpy(bare, unit, UNIT);
+                memcpy(said, answer, ANSWER);
+            }
+            expect(memcmp(unit, bare, UNIT) == 0 && memcmp(answer, said, ANSWER) == 0, "nothing else reads the low byte");
+        }
+}
+
 static void power_on(void)
 {
     static const uint8_t zeros[UNIT];
@@ -174,7 +204,7 @@ static void damaged_units(void)
 /* Refusal 2 for the VTR: for exactly those values that have SWW or FATL and no primary flag, %40, %80 and %C0, in a reset too. */
 static void orphans(void)
 {
-    const struct cycle reset = {0, 0, 0, 0, true, false, true};
+    const struct cycle reset = {0, 0, 0, 0x5A, 0, true, false, true};
     uint8_t unit[UNIT + PAST];
     int vtr, notes;
 
@@ -196,9 +226,9 @@ static void orphans(void)
 /* Refusals 1, 3 and 4 of an undamaged unit, for each of the sixteen notes bytes. */
 static void refused_cycles(void)
 {
-    static const struct cycle status = {16, 0, 0x02, 0, true, false, false}, segment = {3, 128, 0x02, 0, true, false, false};
-    static const struct cycle unlisted = {3, 0, 0x12, 0, true, false, false}, read = {3, 0, 0x10, 0, true, false, false};
-    static const struct cycle written = {3, 0, 0x02, 0, false, false, false};
+    static const struct cycle status = {16, 0, 0x02, 0x5A, 0, true, false, false}, segment = {3, 128, 0x02, 0x5A, 0, true, false, false};
+    static const struct cycle unlisted = {3, 0, 0x12, 0x5A, 0, true, false, false}, read = {3, 0, 0x10, 0x5A, 0, true, false, false};
+    static const struct cycle written = {3, 0, 0x02, 0x5A, 0, false, false, false};
     uint8_t unit[UNIT + PAST];
     int notes;
 
@@ -229,6 +259,7 @@ static void listing(void)
 int main(void)
 {
     layout();
+    low_bytes();
     power_on();
     short_buffers();
     damaged_units();

@@ -1,11 +1,15 @@
 /* distantarm.h: the proved model of the U8010 memory management unit, for C and C++.
  *
- * The library keeps no state. A unit is 266 bytes that the caller keeps and hands to each call, so there may be as many units as the
+ * The library keeps no state. A unit is 267 bytes that the caller keeps and hands to each call, so there may be as many units as the
  * caller likes, and a unit is copied, stored or compared as bytes.
  *
  * A buffer passes as a pointer and then its length in bytes. The pointer is never null, and points to that many bytes; the two buffers
  * of one call do not overlap. That is all that a caller has to see to: every value of every other parameter, every length and every
  * content of a buffer has an answer, and bytes past those named here are left as they were.
+ *
+ * This is interface 2. Interface 1, whose header had no number, knew no low byte. A caller of it must hand distantarm_cycle one number
+ * more, `low` behind `offset` (0 answers as before), and give a unit one byte more, DISTANTARM_LOW behind those that it had (0 in a unit
+ * that was stored). No other place has moved. A unit of 266 bytes is now too short, and gets 255.
  *
  * What is proved is the library's source (crates/distantarm). Nothing checks these declarations against it but the test bench
  * (sh tools/interface). A bool is C's: a conversion to it makes 0 or 1, and no other byte may be passed.
@@ -21,8 +25,11 @@
 extern "C" {
 #endif
 
+/* ---- the interface's version: it goes up where a caller must change something */
+#define DISTANTARM_INTERFACE 2
+
 /* ---- sizes in bytes: a unit, a packed answer, and the room that any text of distantarm_list has */
-#define DISTANTARM_UNIT_BYTES 266
+#define DISTANTARM_UNIT_BYTES 267
 #define DISTANTARM_ANSWER_BYTES 6
 #define DISTANTARM_TEXT_BYTES 400012
 
@@ -45,6 +52,10 @@ extern "C" {
 
 /* A descriptor has four bytes: base (high byte first), limit, attributes. */
 #define DISTANTARM_DESCRIPTOR_BYTES 4
+
+/* The low byte of the address that VSN and VOFF keep, stored in the same cycles. It stands last, behind the descriptors, so that no other
+ * place moved when it came. No command shows it: read it here. */
+#define DISTANTARM_LOW 266
 
 /* ---- a packed answer: the letter of its kind, the number of a refusal or 0, address lines A23 to A16 and A15 to A8, the flags, the
  * data byte. Lines and a data byte that are not driven are 0. */
@@ -82,15 +93,16 @@ extern "C" {
 #define DISTANTARM_LENGTH 8
 #define DISTANTARM_NO_ROOM 255
 
-/* Puts the unit at power-on, all zero and false, into the first 266 bytes of `unit`, and gives 0.
+/* Puts the unit at power-on, all zero and false, into the first 267 bytes of `unit`, and gives 0.
  * Where `unit` is shorter it gives 255 and leaves it as it was. */
 uint8_t distantarm_power_on(uint8_t *unit, size_t unit_length);
 
-/* One bus cycle. The packed answer stands in the first 6 bytes of `answer` and the unit after the cycle in the first 266 of `unit`.
+/* One bus cycle. The packed answer stands in the first 6 bytes of `answer` and the unit after the cycle in the first 267 of `unit`.
  *
  *   status    0 to 15            read, normal, dma   read and not write, normal and not system mode, DMA and not CPU
  *   segment   0 to 127           select              chip select
  *   offset    the byte on AD8 to AD15 in the address phase: the offset's high byte, or the command code
+ *   low       the offset's low byte: a fault that stores VOFF keeps it, and nothing else reads it
  *   byte      the data byte      reset               the reset line
  *
  * It gives 0, or the number of the refusal, 1 to 4, as the answer has it too; a refusal drives nothing, shows the trap line as it was
@@ -98,7 +110,7 @@ uint8_t distantarm_power_on(uint8_t *unit, size_t unit_length);
  * VSN or ISN above 127, DSCR above 3, or a VTR with SWW or FATL and no primary flag. Where a buffer is too short it gives 255, and both
  * are left as they were. */
 uint8_t distantarm_cycle(uint8_t *unit, size_t unit_length, uint8_t *answer, size_t answer_length, uint8_t status, bool read, bool normal,
-                         bool dma, bool select, uint8_t segment, uint8_t offset, uint8_t byte, bool reset);
+                         bool dma, bool select, uint8_t segment, uint8_t offset, uint8_t low, uint8_t byte, bool reset);
 
 /* Puts the text of a trace, as mmurun prints it, at the start of `text`, and gives its length in bytes; no text is empty, and none ends
  * with a zero byte. Where `text` is shorter than 400,012 bytes it gives 0 and leaves it as it was. It needs about 100,000 bytes of stack. */

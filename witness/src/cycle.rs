@@ -15,6 +15,9 @@ pub struct Cycle {
     pub segment: u8,
     /// AD8 to AD15 in the address phase: offset high byte or command code.
     pub offset: u8,
+    /// The low byte of the address (ticket 8). Nothing reads it but the store
+    /// that keeps it.
+    pub low: u8,
     pub data: u8,
     pub reset: bool,
 }

@@ -30,17 +30,29 @@ pub trait Recording {
     /// No primary flag yet.
     fn first_entry(unit: &mut Unit, cycle: &Cycle, flags: u8) {
         unit.vtr |= flags;
-        unit.vsn = Self::kept_segment(cycle);
-        unit.voff = cycle.offset;
-        unit.bcsr = cycle.bus_status();
+        Self::store(unit, cycle);
         unit.own = true;
         Self::trap(unit);
+    }
+
+    /// What is kept of the faulting cycle: the low byte exactly with VOFF
+    /// (ticket 8), so a 0 takes the place of an older byte as any other does.
+    fn store(unit: &mut Unit, cycle: &Cycle) {
+        unit.vsn = Self::kept_segment(cycle);
+        unit.voff = cycle.offset;
+        unit.low = Self::kept_low(cycle);
+        unit.bcsr = cycle.bus_status();
     }
 
     /// What VSN and ISN keep: all seven bits (ticket 2), where document 01 has
     /// the segment modulo 64.
     fn kept_segment(cycle: &Cycle) -> u8 {
         cycle.segment
+    }
+
+    /// All eight bits.
+    fn kept_low(cycle: &Cycle) -> u8 {
+        cycle.low
     }
 
     /// The instruction that made the first entry: flags, nothing else.

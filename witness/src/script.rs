@@ -1,21 +1,27 @@
 //! Step scripts: hand-made units and single cycles, for states that no trace
 //! reaches.
 //!
-//! `U mr sar dscr vtr vsn voff bcsr isn ioff notes` sets a unit with an empty
-//! table, `D nn bbbb ll aa` one descriptor, `C ss ff gg oo bb` steps one cycle
-//! and prints a line. Blank lines and lines starting with `#` are echoed; any
-//! other line prints `?`. A script without a `U` line starts at power-on.
+//! `U mr sar dscr vtr vsn voff bcsr isn ioff notes low` sets a unit with an
+//! empty table, `D nn bbbb ll aa` one descriptor. `C ss ff gg oo ww bb` steps
+//! one cycle and prints a line: status, flags, segment, offset byte, low byte,
+//! data byte. Blank lines and lines starting with `#` are echoed; any other
+//! line prints `?`. A script starts at power-on.
 
 use std::fmt;
 
 use crate::cycle::{Answer, Cycle};
+use crate::text::Text;
 use crate::unit::{Descriptor, Unit};
 
-pub type Step = fn(&mut Unit, &Cycle) -> Answer;
+/// Runs a script with a reading and gives the text it prints.
+pub fn run<R: Text>(script: &str) -> String {
+    play(script, R::power_on(), &mut R::step)
+}
 
-/// Runs a script with a reading's step and gives the text it prints.
-pub fn run(script: &str, step: Step) -> String {
-    let mut unit = Unit::power_on();
+type Step<'s> = dyn FnMut(&mut Unit, &Cycle) -> Answer + 's;
+
+/// The same from any unit and with any step, one that looks on among them.
+pub fn play(script: &str, mut unit: Unit, step: &mut Step) -> String {
     let mut text = String::new();
     for line in script.split_terminator('\n') {
         if line.is_empty() || line.starts_with('#') {
@@ -36,7 +42,7 @@ pub fn run(script: &str, step: Step) -> String {
 
 /// The answer, the registers after it, and the descriptor that the cycle
 /// looks at: a command's by SAR as it was before, any other's by segment.
-fn step_line(unit: &mut Unit, cycle: &Cycle, step: Step) -> String {
+fn step_line(unit: &mut Unit, cycle: &Cycle, step: &mut Step) -> String {
     let number = if cycle.status == 3 {
         unit.sar % 64
     } else {
@@ -50,7 +56,8 @@ fn step_line(unit: &mut Unit, cycle: &Cycle, step: Step) -> String {
     )
 }
 
-/// The registers and notes of a unit, as a script's `U` line gives them.
+/// The registers, notes and kept low byte of a unit, as a script's `U` line
+/// gives them.
 pub struct Registers<'u>(pub &'u Unit);
 
 impl fmt::Display for Registers<'_> {
@@ -58,7 +65,7 @@ impl fmt::Display for Registers<'_> {
         let unit = self.0;
         write!(
             out,
-            "{:02X} {:02X} {:02X} {:02X} {:02X} {:02X} {:02X} {:02X} {:02X} {:02X}",
+            "{:02X} {:02X} {:02X} {:02X} {:02X} {:02X} {:02X} {:02X} {:02X} {:02X} {:02X}",
             unit.mr,
             unit.sar,
             unit.dscr,
@@ -68,7 +75,8 @@ impl fmt::Display for Registers<'_> {
             unit.bcsr,
             unit.isn,
             unit.ioff,
-            notes(unit)
+            notes(unit),
+            unit.low
         )
     }
 }
@@ -94,7 +102,8 @@ impl fmt::Display for Descriptor {
 
 /// The unit of a `U` line.
 pub fn parse_unit(line: &str) -> Option<Unit> {
-    let [mr, sar, dscr, vtr, vsn, voff, bcsr, isn, ioff, notes] = bytes(line.strip_prefix("U ")?)?;
+    let [mr, sar, dscr, vtr, vsn, voff, bcsr, isn, ioff, notes, low] =
+        bytes(line.strip_prefix("U ")?)?;
     Some(Unit {
         mr,
         sar,
@@ -105,6 +114,7 @@ pub fn parse_unit(line: &str) -> Option<Unit> {
         bcsr,
         isn,
         ioff,
+        low,
         request: notes & 1 != 0,
         awaits: notes & 2 != 0,
         own: notes & 4 != 0,
@@ -125,7 +135,7 @@ fn parse_descriptor(line: &str) -> Option<(usize, Descriptor)> {
 }
 
 fn parse_cycle(line: &str) -> Option<Cycle> {
-    let [status, flags, segment, offset, data] = bytes(line.strip_prefix("C ")?)?;
+    let [status, flags, segment, offset, low, data] = bytes(line.strip_prefix("C ")?)?;
     Some(Cycle {
         status,
         read: flags & 0x01 != 0,
@@ -135,6 +145,7 @@ fn parse_cycle(line: &str) -> Option<Cycle> {
         reset: flags & 0x10 != 0,
         segment,
         offset,
+        low,
         data,
     })
 }

@@ -24,6 +24,7 @@ pub trait Layout {
         Ok(count)
     }
 
+    /// A record of version 1 has no low byte: its cycle's is 0 (ticket 8).
     fn decode(record: [u8; 4]) -> Cycle {
         let [bus, segment, offset, data] = record;
         Cycle {
@@ -35,6 +36,7 @@ pub trait Layout {
             segment: segment & 0x7F,
             reset: segment & 0x80 != 0,
             offset,
+            low: 0,
             data,
         }
     }

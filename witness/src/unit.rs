@@ -63,6 +63,9 @@ pub struct Unit {
     pub bcsr: u8,
     pub isn: u8,
     pub ioff: u8,
+    /// The low byte of the address whose offset byte is in VOFF, any byte. No
+    /// command shows it (ticket 8).
+    pub low: u8,
     /// The trap line stands.
     pub request: bool,
     /// The aborted fetch of the standing request is still to come.
@@ -87,6 +90,7 @@ impl Unit {
             bcsr: 0,
             isn: 0,
             ioff: 0,
+            low: 0,
             request: false,
             awaits: false,
             own: false,

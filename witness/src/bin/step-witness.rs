@@ -3,7 +3,6 @@
 
 use std::io::{self, Read, Write};
 
-use witness::step::Step;
 use witness::{script, Document01};
 
 fn main() -> io::Result<()> {
@@ -11,5 +10,5 @@ fn main() -> io::Result<()> {
     io::stdin().read_to_end(&mut script)?;
     // A script is text; a byte that is not makes its line a wrong one.
     let script = String::from_utf8_lossy(&script);
-    io::stdout().write_all(script::run(&script, Document01::step).as_bytes())
+    io::stdout().write_all(script::run::<Document01>(&script).as_bytes())
 }

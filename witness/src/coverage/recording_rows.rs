@@ -3,7 +3,7 @@
 use crate::unit::attribute;
 
 use super::event::Event;
-use super::Row;
+use super::{Met, Row};
 
 pub fn rows() -> Vec<Row> {
     let mut rows = first();
@@ -51,6 +51,10 @@ fn first() -> Vec<Row> {
         Row::record("first: VSN stored, bit 6 clear that was set", move |e| {
             first(e) && e.after.vsn < 64 && e.before.vsn >= 64
         }),
+        Row::new(
+            "first: low byte stored, other than 0",
+            Met::Never("a trace of version 1 gives 0"),
+        ),
     ]
 }
 

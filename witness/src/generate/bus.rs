@@ -1,5 +1,7 @@
 //! A bus with one unit on it: takes cycles, keeps them, and steps a unit along
-//! so that the next cycle can be aimed at the state it is in.
+//! so that the next cycle can be aimed at the state it is in. Low bytes stay 0,
+//! as a trace has them; nothing that is aimed at depends on them, so scripts
+//! put theirs in afterwards.
 
 use crate::checks::{Checks, Finding};
 use crate::cycle::{Answer, Cycle};
@@ -116,7 +118,7 @@ impl Bus {
             segment,
             offset: self.offset(segment),
             data: self.random.byte(),
-            reset: false,
+            ..Cycle::default()
         }
     }
 

@@ -223,6 +223,7 @@ pub fn reset(bus: &mut Bus) {
         offset: bus.random.byte(),
         data: bus.random.byte(),
         reset: true,
+        ..Cycle::default()
     };
     bus.push(cycle);
     after_reset(bus);

@@ -1,4 +1,5 @@
-//! Step scripts: units that no capture reaches, and cycles near them.
+//! Step scripts: units that no capture reaches, cycles near them, and low
+//! bytes, which no capture has.
 
 use std::fmt::Write;
 
@@ -8,13 +9,19 @@ use crate::script::Registers;
 use crate::unit::{attribute, mode, violation, Descriptor, Unit};
 
 use super::bus::{violates, warns, warns_at_system_stack, Bus};
+use super::low::{kept, low};
 use super::random::Random;
 use super::story::story;
 use super::{CASES, SCRIPTS};
 
 /// A kind stands here as often as it should come. Two are damaged units, which
 /// go nowhere, so sane ones come twice.
-const KINDS: [&str; 7] = ["sane", "orphan", "sane", "damaged", "range", "any", "story"];
+const KINDS: [&str; 8] = [
+    "sane", "orphan", "sane", "damaged", "range", "any", "story", "low",
+];
+
+/// The first case of a script: the only one that can leave its unit unsaid.
+const POWER_ON: &str = "power-on";
 
 /// The scripts of a seed.
 pub fn scripts(seed: u64) -> impl Iterator<Item = String> {
@@ -28,16 +35,35 @@ pub fn script(seed: u64, count: usize) -> String {
 
 pub fn cases(seed: u64, count: usize) -> impl Iterator<Item = String> {
     (0..count).map(move |case| {
-        let kind = KINDS[case % KINDS.len()];
-        let random = Random::new(seed, case as u64);
-        format!("# {case} {kind}\n{}", scene(random, kind))
+        let kind = match case {
+            0 => POWER_ON,
+            _ => KINDS[case % KINDS.len()],
+        };
+        let mut scene = scene(Random::new(seed, case as u64), kind);
+        // A stream of their own: nothing else that is drawn depends on them.
+        let mut random = Random::new(seed, !(case as u64));
+        for cycle in &mut scene.cycles {
+            cycle.low = low(&mut random);
+        }
+        format!("# {case} {kind}\n{}", lines(&scene, kind != POWER_ON))
     })
 }
 
-fn scene(mut random: Random, kind: &str) -> String {
-    if kind == "story" {
+/// A unit, its loaded descriptors, and cycles.
+struct Scene {
+    unit: Unit,
+    hot: Vec<u8>,
+    cycles: Vec<Cycle>,
+}
+
+fn scene(mut random: Random, kind: &str) -> Scene {
+    if matches!(kind, POWER_ON | "story") {
         let length = random.between(20, 60);
-        return lines(&Unit::power_on(), &[], &story(random, length));
+        return Scene {
+            unit: Unit::power_on(),
+            hot: Vec::new(),
+            cycles: story(random, length),
+        };
     }
     let mut bus = Bus::new(random);
     let hot = table(&mut bus);
@@ -47,41 +73,62 @@ fn scene(mut random: Random, kind: &str) -> String {
         "any" => any(&mut bus),
         _ => sane(&mut bus),
     };
-    let start = bus.unit.clone();
+    let unit = bus.unit.clone();
+    match kind {
+        "low" => kept(&mut bus),
+        _ => cycles(&mut bus, kind),
+    }
+    Scene {
+        unit,
+        hot,
+        cycles: bus.cycles,
+    }
+}
+
+/// A few cycles, such as the unit's kind asks for.
+fn cycles(bus: &mut Bus, kind: &str) {
     for _ in 0..bus.random.between(1, 8) {
-        let cycle = cycle(&mut bus);
+        let cycle = cycle(bus);
         let cycle = match kind {
-            "orphan" => mending(&mut bus, cycle),
-            "range" | "any" => beyond(&mut bus, cycle),
+            "orphan" => mending(bus, cycle),
+            "range" | "any" => beyond(bus, cycle),
             _ => cycle,
         };
         bus.push(cycle);
     }
-    lines(&start, &hot, &bus.cycles)
 }
 
-/// The script's lines for a unit, its loaded descriptors and its cycles.
-fn lines(unit: &Unit, hot: &[u8], cycles: &[Cycle]) -> String {
-    let mut text = format!("U {}\n", Registers(unit));
-    for &number in hot {
-        let descriptor = unit.table[usize::from(number)];
+/// The script's lines for a scene, its unit's only if it is to be said.
+fn lines(scene: &Scene, unit_said: bool) -> String {
+    let mut text = match unit_said {
+        true => format!("U {}\n", Registers(&scene.unit)),
+        false => String::new(),
+    };
+    for &number in &scene.hot {
+        let descriptor = scene.unit.table[usize::from(number)];
         writeln!(text, "D {number:02X} {descriptor}").expect("a string takes every line");
     }
-    for cycle in cycles {
-        let flags = u8::from(cycle.read)
-            | u8::from(cycle.normal) << 1
-            | u8::from(cycle.dma) << 2
-            | u8::from(cycle.select) << 3
-            | u8::from(cycle.reset) << 4;
-        let (status, segment, offset, data) =
-            (cycle.status, cycle.segment, cycle.offset, cycle.data);
-        writeln!(
-            text,
-            "C {status:02X} {flags:02X} {segment:02X} {offset:02X} {data:02X}"
-        )
-        .expect("a string takes every line");
+    for cycle in &scene.cycles {
+        writeln!(text, "C {}", cycle_fields(cycle)).expect("a string takes every line");
     }
     text
+}
+
+fn cycle_fields(cycle: &Cycle) -> String {
+    let flags = u8::from(cycle.read)
+        | u8::from(cycle.normal) << 1
+        | u8::from(cycle.dma) << 2
+        | u8::from(cycle.select) << 3
+        | u8::from(cycle.reset) << 4;
+    let fields = [
+        cycle.status,
+        flags,
+        cycle.segment,
+        cycle.offset,
+        cycle.low,
+        cycle.data,
+    ];
+    fields.map(|field| format!("{field:02X}")).join(" ")
 }
 
 /// A few descriptors, a stack among them, and the segments that use them.
@@ -128,6 +175,7 @@ fn sane(bus: &mut Bus) -> Unit {
         bcsr: random.byte() % 64,
         isn: segment(random),
         ioff: random.byte(),
+        low: random.byte(),
         request,
         awaits,
         own,
@@ -172,6 +220,7 @@ pub fn undamaged(random: &mut Random) -> Unit {
         bcsr: random.byte() % 64,
         isn: segment(random),
         ioff: random.byte(),
+        low: random.byte(),
         request: random.coin(),
         awaits: random.coin(),
         own: random.coin(),
@@ -221,6 +270,7 @@ fn any(bus: &mut Bus) -> Unit {
         bcsr: random.byte() & number,
         isn: random.byte() & segment,
         ioff: random.byte(),
+        low: random.byte(),
         request: random.coin(),
         awaits: random.coin(),
         own: random.coin(),

@@ -24,14 +24,20 @@ fn a_seed_names_a_file_for_good() {
 
 #[test]
 fn no_line_of_a_generated_script_is_wrong() {
-    let text = script::run(&steps::script(7, 120), Document01::step);
+    let text = script::run::<Document01>(&steps::script(7, 120));
     assert!(!text.lines().any(|line| line == "?"));
+}
+
+/// The proved program that is compared reads no more.
+#[test]
+fn every_script_is_shorter_than_65536_bytes() {
+    assert!(steps::scripts(7).all(|script| script.len() < 65_536));
 }
 
 #[test]
 fn a_case_has_a_unit_of_its_kind() {
     for case in steps::cases(7, 600) {
-        let text = script::run(&case, Document01::step);
+        let text = script::run::<Document01>(&case);
         let (head, answers) = text.split_once('\n').expect("a case has a head");
         let mut damaged = answers.lines().map(|answer| answer.starts_with("X2 "));
         match head.rsplit(' ').next() {

@@ -2,6 +2,8 @@
 
 mod exchange;
 mod generated;
+mod low;
+mod low_scripts;
 mod others;
 mod pairs;
 mod refusals;

@@ -1,9 +1,10 @@
 //! Pairs of units that differ in nothing but descriptors outside a set, stepped
 //! by the same cycles, any at all that a rule allows: what the tests of tickets
-//! 2 and 12 run on.
+//! 2 and 12 run on. That of ticket 8 has pairs and cycles of its own.
 
 use witness::commands::code::{CLEAR_VTR, MR, VTR};
 use witness::cycle::{Answer, Cycle, Kind};
+use witness::generate::low::low;
 use witness::generate::random::Random;
 use witness::generate::steps::undamaged;
 use witness::step::Step;
@@ -28,7 +29,7 @@ pub struct Pair {
     pub units: [Unit; 2],
 }
 
-/// One cycle in both units, with the first as it was before.
+/// One cycle in both units, the first unit's, which is here as it was before.
 pub struct Turn {
     pub before: Unit,
     pub cycle: Cycle,
@@ -80,7 +81,7 @@ impl Pair {
     }
 
     /// Any cycle. The data byte is drawn for MR, and any other code takes it.
-    fn any(&self, random: &mut Random) -> Cycle {
+    pub fn any(&self, random: &mut Random) -> Cycle {
         let status = match random.below(16) {
             0 => random.byte(),
             1 => random.byte() % 16,
@@ -100,6 +101,7 @@ impl Pair {
                 0x3 => code(random),
                 _ => small(random),
             },
+            low: low(random),
             data: translating(random),
             reset: random.once_in(200),
         }
@@ -125,9 +127,17 @@ impl Pair {
         while !rule(self, &cycle) {
             cycle = self.any(random);
         }
+        self.step(cycle, cycle)
+    }
+
+    /// Steps each unit with a cycle of its own.
+    pub fn step(&mut self, cycle: Cycle, twin: Cycle) -> Turn {
         let before = self.units[0].clone();
-        let step = |unit| Document01::step(unit, &cycle);
-        let answers = self.units.each_mut().map(step);
+        let [unit, other] = &mut self.units;
+        let answers = [
+            Document01::step(unit, &cycle),
+            Document01::step(other, &twin),
+        ];
         Turn {
             before,
             cycle,
@@ -191,12 +201,27 @@ pub fn every_turn(
     law: fn(&Pair, &Turn) -> bool,
     wanted: &[Wanted],
 ) {
+    every(
+        Pair::new,
+        |pair, random| pair.turn(random, &rule),
+        law,
+        wanted,
+    );
+}
+
+/// The same of any pairs and any way to step them.
+pub fn every(
+    new: fn(&mut Random) -> Pair,
+    next: impl Fn(&mut Pair, &mut Random) -> Turn,
+    law: fn(&Pair, &Turn) -> bool,
+    wanted: &[Wanted],
+) {
     let mut random = Random::new(12, 0);
     let mut counts = vec![0; wanted.len()];
     for number in 0..PAIRS {
-        let mut pair = Pair::new(&mut random);
+        let mut pair = new(&mut random);
         for _ in 0..CYCLES {
-            let turn = pair.turn(&mut random, &rule);
+            let turn = next(&mut pair, &mut random);
             let Turn { cycle, answers, .. } = turn;
             assert!(law(&pair, &turn), "pair {number}: {cycle:?}, {answers:?}");
             for (count, (_, meets)) in counts.iter_mut().zip(wanted) {

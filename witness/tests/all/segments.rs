@@ -90,14 +90,14 @@ fn resets_leave_both() {
     }
 }
 
-/// Seen from outside: the VTR gets its first primary flag.
-fn stores_vsn(pair: &Pair, turn: &Turn) -> bool {
+/// Seen from outside: the VTR gets its first primary flag. VOFF is stored too.
+pub fn stores_vsn(pair: &Pair, turn: &Turn) -> bool {
     let primary = |unit: &Unit| unit.vtr & violation::PRIMARY != 0;
     !primary(&turn.before) && primary(&pair.units[0])
 }
 
 /// A fetch that is translated with SUP off, while the VTR is zero.
-fn stores_isn(turn: &Turn) -> bool {
+pub fn stores_isn(turn: &Turn) -> bool {
     let fetch = turn.cycle.status == 0xD && turn.cycle.read && !turn.cycle.dma;
     let clean = is(turn, Kind::Translated) && !turn.answers[0].sup;
     fetch && clean && turn.before.vtr == 0

@@ -4,7 +4,6 @@
 use std::fmt;
 
 use witness::generate::{file, steps, CASES, COMPARED, SCRIPTS};
-use witness::step::Step;
 use witness::text::Text;
 use witness::{script, Document01};
 
@@ -37,7 +36,7 @@ impl Trials {
                 .collect(),
             cases: cases
                 .map(|given| Trial {
-                    right: script::run(&given, Document01::step),
+                    right: script::run::<Document01>(&given),
                     given,
                 })
                 .collect(),
@@ -49,8 +48,7 @@ impl Trials {
         let (compared, others) = self.captures.split_at(COMPARED);
         let compared = compared.iter().filter(tells).count();
         let others = others.iter().filter(tells).count();
-        let tells =
-            |trial: &&Trial<String, String>| script::run(&trial.given, wrong.step) != trial.right;
+        let tells = |trial: &&Trial<String, String>| (wrong.play)(&trial.given) != trial.right;
         Judged {
             wrong,
             captures: compared + others,

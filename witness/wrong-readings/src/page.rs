@@ -54,9 +54,14 @@ const RULES: &[(&str, &str)] = &[
     ("Recording::record", "which row records, and hold"),
     ("Recording::first_entry", "no primary flag: the first entry"),
     (
+        "Recording::store",
+        "what is stored of the faulting cycle, the low byte with VOFF",
+    ),
+    (
         "Recording::kept_segment",
         "which bits of the segment VSN and ISN keep",
     ),
+    ("Recording::kept_low", "what is kept as the low byte"),
     ("Recording::further_entry", "a primary flag, and own set"),
     ("Recording::fatal", "a primary flag, own clear: FATL"),
     (
@@ -69,7 +74,10 @@ const RULES: &[(&str, &str)] = &[
     ),
     ("Recording::trap", "request and await"),
     ("Memory::held", "SUP while hold stands"),
-    ("Memory::memory", "hold, ISN and IOFF in a memory cycle"),
+    (
+        "Memory::memory",
+        "hold, ISN, IOFF and the low byte in a memory cycle",
+    ),
     ("Memory::translated", "a translated cycle"),
     ("Memory::aborted_fetch", "the aborted fetch"),
     ("Memory::fetches", "what starts an instruction"),
@@ -181,8 +189,8 @@ of document 01, or of a ticket that has landed, is read wrongly, and every other
 or the generated scripts of hand-made units, must tell it from the right one: on some of them it prints something else.
 
 There are {readings} wrong readings. {captures} are told by captures; {cases} by scripts alone, since no capture reaches \
-a damaged unit (an orphan is one), a number out of range or own without await, or shows own itself; {same} cannot be \
-told, because they come out the same. The first {COMPARED} captures and all scripts go through the proved programs in \
+a damaged unit (an orphan is one), a number out of range, own without await or a low byte other than 0, or shows own or \
+the kept low byte; {same} cannot be told, because they come out the same. The first {COMPARED} captures and all scripts go through the proved programs in \
 `tools/compare`, and these alone tell every wrong reading that can be told.
 
     sh tools/wrong-readings

@@ -6,11 +6,15 @@ use witness::cycle::Cycle;
 use witness::unit::{attribute, violation, Descriptor};
 use witness::Document01;
 
+/// In the last block that is permitted upward.
+fn at_limit(descriptor: &Descriptor, cycle: &Cycle) -> bool {
+    !descriptor.has(attribute::DIRW) && cycle.offset == descriptor.limit
+}
+
 wrong! { Checks:
     LimitExcluded "the block at the limit is outside, upward" {
         fn outside(descriptor: &Descriptor, cycle: &Cycle) -> bool {
-            let up = !descriptor.has(attribute::DIRW);
-            Document01::outside(descriptor, cycle) || up && cycle.offset == descriptor.limit
+            Document01::outside(descriptor, cycle) || at_limit(descriptor, cycle)
         }
     }
     StackLimitExcluded "the block at the limit is outside, downward" {
@@ -193,6 +197,28 @@ wrong! { Checks:
         }
         fn dma_inhibited(descriptor: &Descriptor, cycle: &Cycle) -> bool {
             descriptor.has(attribute::CPUI) && cycle.dma
+        }
+    }
+    LowEndsBlock "the last byte of the block at the limit is outside, upward" {
+        fn outside(descriptor: &Descriptor, cycle: &Cycle) -> bool {
+            let end = at_limit(descriptor, cycle) && cycle.low == 0xFF;
+            Document01::outside(descriptor, cycle) || end
+        }
+    }
+    LowInLimit "in the block at the limit only a low byte of 0 is inside, upward" {
+        fn outside(descriptor: &Descriptor, cycle: &Cycle) -> bool {
+            let beyond = at_limit(descriptor, cycle) && cycle.low != 0;
+            Document01::outside(descriptor, cycle) || beyond
+        }
+    }
+    WarnsAtLowZero "only a write with a low byte of 0 warns" {
+        fn warns(descriptor: &Descriptor, cycle: &Cycle) -> bool {
+            cycle.low == 0 && Document01::warns(descriptor, cycle)
+        }
+    }
+    WarnsInLowHalf "only a write in the lower half of the block at the limit warns" {
+        fn warns(descriptor: &Descriptor, cycle: &Cycle) -> bool {
+            cycle.low < 0x80 && Document01::warns(descriptor, cycle)
         }
     }
 }

@@ -20,6 +20,19 @@ fn clear_vtr_but(unit: &mut Unit, code: u8, data: u8, flags: u8) {
     clear_vtr_and(unit, code, data, |unit| unit.vtr = kept);
 }
 
+/// The listing with this code as one that can be read and not written.
+fn listing_with(shown: u8, code: u8) -> Listing {
+    Document01::listing(if code == shown { code::VOFF } else { code })
+}
+
+/// Reads the low byte with this code; others as the paper has them.
+fn read_low(unit: &Unit, shown: u8, code: u8) -> u8 {
+    match code == shown {
+        true => unit.low,
+        false => Document01::read_register(unit, code),
+    }
+}
+
 /// The segment with URS, as it stands in MR, as bit 6.
 fn in_range(unit: &Unit, segment: u8) -> u8 {
     let range = if unit.mode(mode::URS) { 64 } else { 0 };
@@ -538,6 +551,86 @@ wrong! { Commands:
                 true => Document01::command(unit, cycle),
                 false => None,
             }
+        }
+    }
+    VoffReadsLow "a read of VOFF shows the low byte" {
+        fn read_register(unit: &Unit, code: u8) -> u8 {
+            read_low(unit, code::VOFF, code)
+        }
+    }
+    BcsrReadsLow "a read with the code after VOFF's, %05, shows the low byte" {
+        fn read_register(unit: &Unit, code: u8) -> u8 {
+            read_low(unit, code::BCSR, code)
+        }
+    }
+    VoffReadsByDscr "a read of VOFF shows the low byte while DSCR is not 0" {
+        fn read_register(unit: &Unit, code: u8) -> u8 {
+            match unit.dscr {
+                0 => Document01::read_register(unit, code),
+                _ => read_low(unit, code::VOFF, code),
+            }
+        }
+    }
+    TwelveReadsLow "%12 is listed, and a read shows the low byte" {
+        fn listing(code: u8) -> Listing {
+            listing_with(0x12, code)
+        }
+        fn read_register(unit: &Unit, code: u8) -> u8 {
+            read_low(unit, 0x12, code)
+        }
+    }
+    SeventeenReadsLow "%17 is listed, and a read shows the low byte" {
+        fn listing(code: u8) -> Listing {
+            listing_with(0x17, code)
+        }
+        fn read_register(unit: &Unit, code: u8) -> u8 {
+            read_low(unit, 0x17, code)
+        }
+    }
+    VoffWritesLow "a write with VOFF's code sets the low byte" {
+        fn command_refusal(cycle: &Cycle) -> Option<u8> {
+            Document01::command_refusal(cycle).filter(|_| cycle.offset != code::VOFF)
+        }
+        fn write_register(unit: &mut Unit, code: u8, data: u8) {
+            match code {
+                code::VOFF => unit.low = data,
+                _ => Document01::write_register(unit, code, data),
+            }
+        }
+    }
+    VoffReadClearsLow "a read of VOFF clears the low byte" {
+        fn command(unit: &mut Unit, cycle: &Cycle) -> Option<u8> {
+            if cycle.offset == code::VOFF {
+                unit.low = 0;
+            }
+            Document01::command(unit, cycle)
+        }
+    }
+    ClearVtrLow "clear VTR clears the low byte" {
+        fn write_register(unit: &mut Unit, code: u8, data: u8) {
+            clear_vtr_and(unit, code, data, |unit| unit.low = 0);
+        }
+    }
+    ClearFlagLow "clear SWW and clear FATL clear the low byte" {
+        fn write_register(unit: &mut Unit, code: u8, data: u8) {
+            Document01::write_register(unit, code, data);
+            if matches!(code, code::CLEAR_SWW | code::CLEAR_FATL) {
+                unit.low = 0;
+            }
+        }
+    }
+    ModeClearsLow "a write of MR clears the low byte" {
+        fn write_register(unit: &mut Unit, code: u8, data: u8) {
+            Document01::write_register(unit, code, data);
+            if code == code::MR {
+                unit.low = 0;
+            }
+        }
+    }
+    SoftwareResetClearsLow "software reset clears the low byte" {
+        fn software_reset(unit: &mut Unit) {
+            Document01::software_reset(unit);
+            unit.low = 0;
         }
     }
 }

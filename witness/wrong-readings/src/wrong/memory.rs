@@ -458,4 +458,55 @@ wrong! { Memory:
             answer
         }
     }
+    LowOfTranslated "every translated cycle stores the low byte" {
+        fn translated(unit: &mut Unit, cycle: &Cycle, address: u16, held: bool) -> Answer {
+            unit.low = cycle.low;
+            Document01::translated(unit, cycle, address, held)
+        }
+    }
+    LowOfMemory "every memory cycle stores the low byte" {
+        fn memory(unit: &mut Unit, cycle: &Cycle) -> Answer {
+            unit.low = cycle.low;
+            Document01::memory(unit, cycle)
+        }
+    }
+    LowOfInstruction "a fetch that stores ISN and IOFF stores the low byte" {
+        fn memory(unit: &mut Unit, cycle: &Cycle) -> Answer {
+            let answer = Document01::memory(unit, cycle);
+            if stored_instruction(unit, cycle, &answer) {
+                unit.low = cycle.low;
+            }
+            answer
+        }
+    }
+    LowOfAborted "the aborted fetch stores the low byte" {
+        fn aborted_fetch(unit: &mut Unit, cycle: &Cycle) -> Answer {
+            unit.low = cycle.low;
+            Document01::aborted_fetch(unit, cycle)
+        }
+    }
+    LowOfDma "a DMA violation stores the low byte" {
+        fn translated(unit: &mut Unit, cycle: &Cycle, address: u16, held: bool) -> Answer {
+            let answer = Document01::translated(unit, cycle, address, held);
+            if cycle.dma && answer.sup {
+                unit.low = cycle.low;
+            }
+            answer
+        }
+    }
+    LowOfDmaFirst "a DMA violation stores the low byte while no primary flag stands" {
+        fn translated(unit: &mut Unit, cycle: &Cycle, address: u16, held: bool) -> Answer {
+            let answer = Document01::translated(unit, cycle, address, held);
+            if cycle.dma && answer.sup && unit.vtr == 0 {
+                unit.low = cycle.low;
+            }
+            answer
+        }
+    }
+    LowEndsWithInstruction "the start of an instruction clears the low byte" {
+        fn start_instruction(unit: &mut Unit) {
+            Document01::start_instruction(unit);
+            unit.low = 0;
+        }
+    }
 }

@@ -10,11 +10,11 @@ mod text;
 mod trace;
 mod translation;
 
-use witness::cycle::{Answer, Cycle};
+use witness::script;
 use witness::text::Text;
-use witness::unit::Unit;
 
-/// One wrong reading: the text it prints for a trace, and its step.
+/// One wrong reading, with the text that it prints for a trace and for a step
+/// script.
 pub struct Wrong {
     /// The rule that it breaks, as `Trait::method`; the first, if there are two.
     pub rule: &'static str,
@@ -22,7 +22,7 @@ pub struct Wrong {
     /// Why nothing can tell it from the right reading, if nothing can.
     pub same: Option<&'static str>,
     pub run: fn(&[u8]) -> Vec<u8>,
-    pub step: fn(&mut Unit, &Cycle) -> Answer,
+    pub play: fn(&str) -> String,
 }
 
 impl Wrong {
@@ -36,7 +36,7 @@ impl Wrong {
             says,
             same,
             run: R::run,
-            step: R::step,
+            play: script::run::<R>,
         }
     }
 }

@@ -3,6 +3,7 @@
 use super::wrong;
 use witness::checks::Finding;
 use witness::cycle::Cycle;
+use witness::recording::Recording;
 use witness::unit::{violation, Unit};
 use witness::Document01;
 
@@ -13,6 +14,29 @@ fn primary(unit: &Unit) -> bool {
 /// Neither an own entry nor a first one.
 fn later(unit: &Unit) -> bool {
     primary(unit) && !unit.own
+}
+
+/// The row that sets SWW, or finds it standing.
+fn second(unit: &Unit, cycle: &Cycle, finding: Finding) -> bool {
+    later(unit) && finding == Finding::Warning && Document01::system_stack(cycle)
+}
+
+/// The low byte is stored in this row of the recording too, if the cycle is of
+/// it.
+fn store_low_too(unit: &mut Unit, cycle: &Cycle, finding: Finding, row: bool) {
+    Document01::record(unit, cycle, finding);
+    if row && finding != Finding::Clean {
+        unit.low = cycle.low;
+    }
+}
+
+/// A store that leaves the low byte, unless it is to be stored.
+fn store_low_if(unit: &mut Unit, cycle: &Cycle, stored: bool) {
+    let low = unit.low;
+    Document01::store(unit, cycle);
+    if !stored {
+        unit.low = low;
+    }
 }
 
 wrong! { Recording:
@@ -41,9 +65,7 @@ wrong! { Recording:
     OwnStores "a further entry of the own instruction stores its address" {
         fn further_entry(unit: &mut Unit, cycle: &Cycle, flags: u8) {
             Document01::further_entry(unit, cycle, flags);
-            unit.vsn = Document01::kept_segment(cycle);
-            unit.voff = cycle.offset;
-            unit.bcsr = cycle.bus_status();
+            Document01::store(unit, cycle);
         }
     }
     OwnFlagsLost "a further entry of the own instruction adds no flags" {
@@ -138,10 +160,10 @@ wrong! { Recording:
     }
     WarningStoresNothing "a first warning stores no address" {
         fn first_entry(unit: &mut Unit, cycle: &Cycle, flags: u8) {
-            let (vsn, voff, bcsr) = (unit.vsn, unit.voff, unit.bcsr);
+            let Unit { vsn, voff, low, bcsr, .. } = *unit;
             Document01::first_entry(unit, cycle, flags);
             if flags == violation::PWW {
-                (unit.vsn, unit.voff, unit.bcsr) = (vsn, voff, bcsr);
+                (unit.vsn, unit.voff, unit.low, unit.bcsr) = (vsn, voff, low, bcsr);
             }
         }
     }
@@ -295,9 +317,7 @@ wrong! { Recording:
             let later = later(unit);
             Document01::record(unit, cycle, finding);
             if later && finding != Finding::Clean {
-                unit.vsn = Document01::kept_segment(cycle);
-                unit.voff = cycle.offset;
-                unit.bcsr = cycle.bus_status();
+                Document01::store(unit, cycle);
             }
         }
     }
@@ -367,6 +387,139 @@ wrong! { Recording:
             Document01::first_entry(unit, cycle, flags);
             let base = unit.table[usize::from(cycle.entry())].base;
             unit.voff = cycle.offset.wrapping_add(base.to_be_bytes()[1]);
+        }
+    }
+    LowSevenBits "seven bits of the low byte are kept" {
+        fn kept_low(cycle: &Cycle) -> u8 {
+            cycle.low & 0x7F
+        }
+    }
+    LowOfWord "the low byte is kept as a word's, with bit 0 clear" {
+        fn kept_low(cycle: &Cycle) -> u8 {
+            cycle.low & 0xFE
+        }
+    }
+    LowIsOffset "the offset byte is kept in the low byte's place" {
+        fn kept_low(cycle: &Cycle) -> u8 {
+            cycle.offset
+        }
+    }
+    LowIsData "the data byte is kept in the low byte's place" {
+        fn kept_low(cycle: &Cycle) -> u8 {
+            cycle.data
+        }
+    }
+    LowIsZero "every low byte is kept as 0, as a version 1 trace has it" {
+        fn kept_low(_cycle: &Cycle) -> u8 {
+            0
+        }
+    }
+    LowNever "the low byte is never stored" {
+        fn store(unit: &mut Unit, cycle: &Cycle) {
+            store_low_if(unit, cycle, false);
+        }
+    }
+    LowOnce "the low byte is stored only if 0 is kept" {
+        fn store(unit: &mut Unit, cycle: &Cycle) {
+            store_low_if(unit, cycle, unit.low == 0);
+        }
+    }
+    LowNotZero "a low byte of 0 is not stored" {
+        fn store(unit: &mut Unit, cycle: &Cycle) {
+            store_low_if(unit, cycle, cycle.low != 0);
+        }
+    }
+    LowJoins "the low byte's bits are added to those that are kept" {
+        fn store(unit: &mut Unit, cycle: &Cycle) {
+            let low = unit.low;
+            Document01::store(unit, cycle);
+            unit.low |= low;
+        }
+    }
+    LowUntilAcknowledge "the low byte is not stored while a request stands" {
+        fn store(unit: &mut Unit, cycle: &Cycle) {
+            store_low_if(unit, cycle, !unit.request);
+        }
+    }
+    LowOncePerInstruction "the low byte is not stored while own stands" {
+        fn store(unit: &mut Unit, cycle: &Cycle) {
+            store_low_if(unit, cycle, !unit.own);
+        }
+    }
+    LowInVoff "the low byte is stored in VOFF" {
+        fn store(unit: &mut Unit, cycle: &Cycle) {
+            Document01::store(unit, cycle);
+            unit.voff = cycle.low;
+        }
+    }
+    LowSwapped "VOFF keeps the low byte, and the offset byte is kept beside it" {
+        fn store(unit: &mut Unit, cycle: &Cycle) {
+            let (offset, low) = (cycle.low, cycle.offset);
+            Document01::store(unit, &Cycle { offset, low, ..*cycle });
+        }
+    }
+    LowNotOfWarnings "a first warning leaves the low byte" {
+        fn first_entry(unit: &mut Unit, cycle: &Cycle, flags: u8) {
+            let low = unit.low;
+            Document01::first_entry(unit, cycle, flags);
+            if flags == violation::PWW {
+                unit.low = low;
+            }
+        }
+    }
+    LowOfWarningsOnly "a first violation leaves the low byte" {
+        fn first_entry(unit: &mut Unit, cycle: &Cycle, flags: u8) {
+            let low = unit.low;
+            Document01::first_entry(unit, cycle, flags);
+            if flags != violation::PWW {
+                unit.low = low;
+            }
+        }
+    }
+    LowOfLengthOnly "a first violation of rights alone leaves the low byte" {
+        fn first_entry(unit: &mut Unit, cycle: &Cycle, flags: u8) {
+            let low = unit.low;
+            Document01::first_entry(unit, cycle, flags);
+            if flags & (violation::SLV | violation::PWW) == 0 {
+                unit.low = low;
+            }
+        }
+    }
+    LowOfOwn "a further entry of the own instruction stores the low byte" {
+        fn further_entry(unit: &mut Unit, cycle: &Cycle, flags: u8) {
+            Document01::further_entry(unit, cycle, flags);
+            unit.low = cycle.low;
+        }
+    }
+    LowOfEveryRow "every row of the recording stores the low byte" {
+        fn record(unit: &mut Unit, cycle: &Cycle, finding: Finding) {
+            store_low_too(unit, cycle, finding, true);
+        }
+    }
+    LowOfFatal "FATL stores the low byte" {
+        fn record(unit: &mut Unit, cycle: &Cycle, finding: Finding) {
+            let row = later(unit) && !second(unit, cycle, finding);
+            store_low_too(unit, cycle, finding, row);
+        }
+    }
+    LowOfFirstFatal "FATL stores the low byte when it is set" {
+        fn record(unit: &mut Unit, cycle: &Cycle, finding: Finding) {
+            let clear = unit.vtr & violation::FATL == 0;
+            let row = clear && later(unit) && !second(unit, cycle, finding);
+            store_low_too(unit, cycle, finding, row);
+        }
+    }
+    LowOfSecond "SWW stores the low byte" {
+        fn record(unit: &mut Unit, cycle: &Cycle, finding: Finding) {
+            let row = second(unit, cycle, finding);
+            store_low_too(unit, cycle, finding, row);
+        }
+    }
+    LowOfFirstSecond "SWW stores the low byte when it is set" {
+        fn record(unit: &mut Unit, cycle: &Cycle, finding: Finding) {
+            let clear = unit.vtr & violation::SWW == 0;
+            let row = clear && second(unit, cycle, finding);
+            store_low_too(unit, cycle, finding, row);
         }
     }
 }

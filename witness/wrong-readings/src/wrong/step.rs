@@ -697,4 +697,66 @@ wrong! { Step:
             Document01::step(&mut unit.clone(), cycle)
         }
     }
+    LowOutOfRange "a low byte above 127 is refused 1" {
+        fn out_of_range(cycle: &Cycle) -> bool {
+            cycle.low > 127 || Document01::out_of_range(cycle)
+        }
+    }
+    LowDamaged "a kept low byte above 127 is damage" {
+        fn damaged(unit: &Unit) -> bool {
+            unit.low > 127 || Document01::damaged(unit)
+        }
+    }
+    ResetClearsLow "a reset clears the low byte" {
+        fn reset(unit: &mut Unit, cycle: &Cycle) {
+            Document01::reset(unit, cycle);
+            unit.low = 0;
+        }
+    }
+    SelectedResetClearsLow "a selected reset clears the low byte" {
+        fn reset(unit: &mut Unit, cycle: &Cycle) {
+            Document01::reset(unit, cycle);
+            if cycle.select {
+                unit.low = 0;
+            }
+        }
+    }
+    AcknowledgeClearsLow "an acknowledge clears the low byte" {
+        fn acknowledge(unit: &mut Unit, cycle: &Cycle) -> Option<u8> {
+            unit.low = 0;
+            Document01::acknowledge(unit, cycle)
+        }
+    }
+    LowOfEveryCycle "every cycle stores the low byte" {
+        fn step(unit: &mut Unit, cycle: &Cycle) -> Answer {
+            unit.low = cycle.low;
+            Document01::step(unit, cycle)
+        }
+    }
+    LowOfRefused "a refused cycle stores the low byte" {
+        fn step(unit: &mut Unit, cycle: &Cycle) -> Answer {
+            let answer = Document01::step(unit, cycle);
+            if matches!(answer.kind, Kind::Refused(_)) {
+                unit.low = cycle.low;
+            }
+            answer
+        }
+    }
+    LowWithSup "every cycle with SUP on stores the low byte" {
+        fn step(unit: &mut Unit, cycle: &Cycle) -> Answer {
+            let answer = Document01::step(unit, cycle);
+            if answer.sup {
+                unit.low = cycle.low;
+            }
+            answer
+        }
+    }
+    LowWithTrapLine "the low byte is stored as the trap line rises, and else not" {
+        fn step(unit: &mut Unit, cycle: &Cycle) -> Answer {
+            let (request, low) = (unit.request, unit.low);
+            let answer = Document01::step(unit, cycle);
+            unit.low = if !request && unit.request { cycle.low } else { low };
+            answer
+        }
+    }
 }

@@ -40,6 +40,11 @@ wrong! { Text:
             Unit { mr: mode::MSEN | mode::TRNS, ..Unit::power_on() }
         }
     }
+    PowerOnLow "power-on has all bits of the low byte set" {
+        fn power_on() -> Unit {
+            Unit { low: 0xFF, ..Unit::power_on() }
+        }
+    }
     NumbersFromOne "records are numbered from 1" {
         fn run(trace: &[u8]) -> Vec<u8> {
             lines(trace, |number, line| {

@@ -136,4 +136,19 @@ wrong! { Translation:
             }
         }
     }
+    LowCarries "a low byte of 255 carries into the sum" {
+        fn physical(unit: &Unit, cycle: &Cycle) -> u16 {
+            Document01::physical(unit, cycle).wrapping_add(u16::from(cycle.low == 0xFF))
+        }
+    }
+    LowRounds "a low byte above 127 rounds the sum up" {
+        fn physical(unit: &Unit, cycle: &Cycle) -> u16 {
+            Document01::physical(unit, cycle).wrapping_add(u16::from(cycle.low > 0x7F))
+        }
+    }
+    LowPasses "a passed address has the offset byte above the low byte" {
+        fn logical(cycle: &Cycle) -> u16 {
+            u16::from_be_bytes([cycle.offset, cycle.low])
+        }
+    }
 }
