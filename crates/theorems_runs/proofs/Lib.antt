@@ -23,6 +23,7 @@ pub mod Reported
 pub mod SegmentNumbers
 pub mod FirstFault
 pub mod LowByte
+pub mod Latch
 pub mod Wider
 pub mod Descriptors
 pub mod Dma

@@ -11,6 +11,7 @@ pub mod Reported
 pub mod SegmentNumbers
 pub mod FirstFault
 pub mod LowByte
+pub mod Latch
 pub mod Dma
 pub mod Trap
 pub mod Notes
