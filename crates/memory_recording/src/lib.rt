@@ -48,7 +48,6 @@ pub fn first_entry(r: Registers, c: Cycle, event: u8) -> Registers
             vsn: c.segment % Unit::NUMBERS,
             voff: c.offset,
             bcsr: bus_status(c),
-            low: c.low,
         },
         fetched: Fetched {
             isn: r.fetched.isn,
@@ -60,6 +59,7 @@ pub fn first_entry(r: Registers, c: Cycle, event: u8) -> Registers
             own: true,
             hold: r.notes.hold,
         },
+        low: c.low,
     }
 }
 

@@ -49,7 +49,6 @@ pub fn noted(r: Registers, stores: bool, holds: bool, c: Cycle) -> Registers
             vsn: r.faults.vsn,
             voff: r.faults.voff,
             bcsr: r.faults.bcsr,
-            low: r.faults.low,
         },
         fetched: Fetched {
             isn: pick(stores, c.segment % Unit::NUMBERS, r.fetched.isn),
@@ -61,5 +60,6 @@ pub fn noted(r: Registers, stores: bool, holds: bool, c: Cycle) -> Registers
             own: r.notes.own,
             hold: r.notes.hold | holds,
         },
+        low: r.low,
     }
 }

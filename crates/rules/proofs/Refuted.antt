@@ -7,7 +7,7 @@ use Prim.Native.Nat.{ℕ}
 use lib.Dec.{T}
 use Rattle.rules.specs.Computed.{computed}
 use Rattle.rules.specs.Recording.{firstEntry}
-use Rattle.rules.specs.PowerOn.{faultsOf, notesOf, unitOf}
+use Rattle.rules.specs.PowerOn.{storedOf, notesOf, unitOf}
 use Rattle.rules.specs.Seen.{Row, row, rowAfter, holds, segment, noNote, warned, everyNote, unitHolding, standing, translating}
 use Rattle.rules.specs.Seen.{LOW, cycle, writes, command, resets, drivesBlock, drivesByte, drivesNothing, translated, refusal}
 use Rattle.rules.specs.Rows.{writesTo, fetchesFrom, idleHalf, faultedHalf, fetchedHalf}
@@ -44,13 +44,13 @@ wrongTurns =
     (translated 0x2315 false true) (unitIn 0x04 everyNote 0x80) ∷
     -- "The warning block of a stack taken at the top": at the limit, and at the top
     turned (row (translating (segment 0 0xF0 0x20)) (writes 0xF0) (translated 0xF0 false true)
-    (standing (faultsOf 0x20 0 0xF0 0x28 LOW) warned (segment 0 0xF0 0xE0)))
+    (standing (storedOf 0x20 0 0xF0 0x28 LOW) warned (segment 0 0xF0 0xE0)))
     (translated 0xF0 false false) (translating (segment 0 0xF0 0xE0)) ∷
     turned (row (translating (segment 0 0xF0 0x20)) (writes 0xFF) (translated 0xFF false false) (translating (segment 0 0xF0 0xE0)))
-    (translated 0xFF false true) (standing (faultsOf 0x20 0 0xFF 0x28 LOW) warned (segment 0 0xF0 0xE0)) ∷
+    (translated 0xFF false true) (standing (storedOf 0x20 0 0xFF 0x28 LOW) warned (segment 0 0xF0 0xE0)) ∷
     -- "or a DIRW range measured as limit + 1 blocks": %F1 blocks would begin at %0F
     turned (row (translating (segment 0 0xF0 0x20)) (writes 0x0F) (translated 0x0F true true)
-    (standing (faultsOf 0x04 0 0x0F 0x28 LOW) everyNote (segment 0 0xF0 0x20)))
+    (standing (storedOf 0x04 0 0x0F 0x28 LOW) everyNote (segment 0 0xF0 0x20)))
     (translated 0x0F false false) (translating (segment 0 0xF0 0xE0)) ∷
     -- "FATL set by two violations of one instruction."
     turned (row (unitIn 0x01 everyNote 0) (readAt 0x41) (translated 0x2341 true true) (unitIn 0x05 everyNote 0))
@@ -69,10 +69,10 @@ wrongTurns =
 
 -- the units of `MemoryRows` and `CodeRows` with the low byte of the rows' cycles, and with none
 abbrev lowIn : (vtr isn ioff : ℕ) → Notes → (attributes : ℕ) → Unit
-lowIn vtr isn ioff n a = unitHolding 0xC0 0 0 (faultsOf vtr 0x6A 0x9C 0x38 LOW) isn ioff n 5 (segment 0x2300 0x40 a)
+lowIn vtr isn ioff n a = unitHolding 0xC0 0 0 (storedOf vtr 0x6A 0x9C 0x38 LOW) isn ioff n 5 (segment 0x2300 0x40 a)
 
 abbrev lowCleared : (mr dscr : ℕ) → Notes → Unit
-lowCleared mr dscr n = unitOf (tableWith own 0) mr 0x15 dscr (faultsOf 0 0x6A 0x9C 0x38 0) 0x53 0x71 n
+lowCleared mr dscr n = unitOf (tableWith own 0) mr 0x15 dscr (storedOf 0 0x6A 0x9C 0x38 0) 0x53 0x71 n
 
 -- Open points of docs/DECISIONS.md, by their numbers
 abbrev pub turnedReadings : List Turned

@@ -4,7 +4,7 @@ use mathlib.Core.Bool.{true, false}
 use mathlib.Core.List.{List, [], _∷_, _++_}
 use Prim.Native.Nat.{ℕ, _+_}
 use lib.ListN.{set, replicate}
-use Rattle.rules.specs.PowerOn.{faultsOf, unitOf}
+use Rattle.rules.specs.PowerOn.{storedOf, unitOf}
 use Rattle.rules.specs.Seen.{Row, row, below, segment, noNote, everyNote, command, drivesByte, drivesNothing, refusal}
 use Rattle.rules.specs.declared.Descriptor.{Descriptor}
 use Rattle.rules.specs.declared.Notes.{Notes}
@@ -17,7 +17,7 @@ tableWith d attributes = set (replicate 64 (segment 0 0 attributes)) 0x15 d
 
 -- what commands can change, and a value of its own in every other register
 abbrev pub unitBy : (mr sar dscr vtr : ℕ) → Notes → (table : List Descriptor) → Unit
-unitBy mr sar dscr vtr n table = unitOf table mr sar dscr (faultsOf vtr 0x6A 0x9C 0x38 0xE2) 0x53 0x71 n
+unitBy mr sar dscr vtr n table = unitOf table mr sar dscr (storedOf vtr 0x6A 0x9C 0x38 0xE2) 0x53 0x71 n
 
 -- the descriptor at SAR, and the unit at a DSCR
 abbrev pub own : Descriptor

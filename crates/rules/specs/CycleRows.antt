@@ -5,7 +5,7 @@ use mathlib.Core.List.{List, [], _∷_, _++_}
 use Prim.Native.Nat.{ℕ}
 use lib.Dec.{eqb}
 use Rattle.rules.specs.Kinds.{letterOf}
-use Rattle.rules.specs.PowerOn.{faultsOf, notesOf}
+use Rattle.rules.specs.PowerOn.{storedOf, notesOf}
 use Rattle.rules.specs.Seen.{Row, row, segment, noNote, everyNote, unitHolding, unitWith, cycle, selected, resetAt}
 use Rattle.rules.specs.Seen.{acknowledge, drivesByte, drivesNothing, translated, refusal}
 use Rattle.rules.specs.declared.Cycle.{Cycle}
@@ -17,14 +17,14 @@ use Rattle.rules.specs.declared.Kind.the-variants as kind
 
 -- a unit by the registers that have bounds, with a request
 abbrev pub numbered : (sar dscr vsn bcsr isn : ℕ) → Unit
-numbered sar dscr vsn bcsr isn = unitHolding 0xE0 sar dscr (faultsOf 0x04 vsn 0 bcsr 255) isn 0 (notesOf true false false false) 63 (segment 0x2300 0xFF 0)
+numbered sar dscr vsn bcsr isn = unitHolding 0xE0 sar dscr (storedOf 0x04 vsn 0 bcsr 255) isn 0 (notesOf true false false false) 63 (segment 0x2300 0xFF 0)
 
 -- a unit at its bounds, and with segment 127 marked by a read
 abbrev pub full : Unit
 full = numbered 63 3 127 63 127
 
 abbrev pub fullMarked : Unit
-fullMarked = unitHolding 0xE0 63 3 (faultsOf 0x04 127 0 63 255) 127 0 (notesOf true false false false) 63 (segment 0x2300 0xFF 0x80)
+fullMarked = unitHolding 0xE0 63 3 (storedOf 0x04 127 0 63 255) 127 0 (notesOf true false false false) 63 (segment 0x2300 0xFF 0x80)
 
 -- a cycle that is ignored, at a status
 abbrev pub idle : (status : ℕ) → Cycle
@@ -103,7 +103,7 @@ statuses =
 -- Reset and acknowledge, of a unit in which every register has a value of its own
 
 abbrev pub busy : (mr dscr vtr : ℕ) → Notes → Unit
-busy mr dscr vtr n = unitHolding mr 0x15 dscr (faultsOf vtr 0x6A 0x9C 0x38 0xE2) 0x53 0x71 n 5 (segment 0x1234 0x56 0x68)
+busy mr dscr vtr n = unitHolding mr 0x15 dscr (storedOf vtr 0x6A 0x9C 0x38 0xE2) 0x53 0x71 n 5 (segment 0x1234 0x56 0x68)
 
 -- "1. Reset line on: VTR, DSCR and all notes cleared; MR becomes %80 if select is on, else 0. The rest stays."
 abbrev pub restarts : List Row

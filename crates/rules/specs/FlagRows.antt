@@ -8,7 +8,7 @@ use Rattle.rules.specs.Flags.{has, lacks, with, without}
 use Rattle.rules.specs.Masks.{RD, SYS, CPUI, EXC, DMAI, DIRW, CHG, REF}
 use Rattle.rules.specs.Masks.{RDV, SYSV, SLV, CPUIV, EXCV, PWW, SWW, FATL, PRIMARY, DMAIV}
 use Rattle.rules.specs.Masks.{NMS, MST, URS, TRNS, MSEN, READ, NORMAL, UPPER}
-use Rattle.rules.specs.PowerOn.{faultsOf, notesOf}
+use Rattle.rules.specs.PowerOn.{storedOf, notesOf}
 use Rattle.rules.specs.Seen.{Row, row, segment, everyNote, unitWith, standing, translating, LOW, cycle}
 use Rattle.rules.specs.Seen.{drivesBlock, drivesNothing, translated, sameBit}
 use Rattle.rules.specs.declared.Cycle.{Cycle}
@@ -75,7 +75,7 @@ allowed a c marked = row (translating (segment 0 0xFF a)) c (translated 0 false 
 -- a violation of the CPU, with the VTR and BCSR that it leaves
 abbrev pub violation : (attributes : ℕ) → Cycle → (vtr bcsr : ℕ) → Row
 violation a c vtr bcsr =
-    row (translating (segment 0 0xFF a)) c (translated 0 true true) (standing (faultsOf vtr 0 0 bcsr LOW) everyNote (segment 0 0xFF a))
+    row (translating (segment 0 0xFF a)) c (translated 0 true true) (standing (storedOf vtr 0 0 bcsr LOW) everyNote (segment 0 0xFF a))
 
 -- a violation of DMA: SUP alone
 abbrev pub stopped : (attributes : ℕ) → Cycle → Row
@@ -166,8 +166,8 @@ modes =
 -- "The first six VTR flags are primary": beside each of them a later instruction's violation sets FATL, and requests
 abbrev pub primary : (vtr : ℕ) → Row
 primary vtr =
-    row (standing (faultsOf vtr 0 0 0 0) (notesOf false false false false) (segment 0 0xFF 0x04)) (cpu read normal 0x8) (translated 0 true true)
-    (standing (faultsOf (vtr + 0x80) 0 0 0 0) (notesOf true true false true) (segment 0 0xFF 0x04))
+    row (standing (storedOf vtr 0 0 0 0) (notesOf false false false false) (segment 0 0xFF 0x04)) (cpu read normal 0x8) (translated 0 true true)
+    (standing (storedOf (vtr + 0x80) 0 0 0 0) (notesOf true true false true) (segment 0 0xFF 0x04))
 
 abbrev pub primaries : List Row
 primaries = primary 0x01 ∷ primary 0x02 ∷ primary 0x04 ∷ primary 0x08 ∷ primary 0x10 ∷ primary 0x20 ∷ []

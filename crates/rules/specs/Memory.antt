@@ -82,6 +82,7 @@ noted r stores holds c = record {
   faults = r .faults;
   fetched = record { isn = cond stores (sevenBits c) (r .fetched .isn); ioff = cond stores (c .offset) (r .fetched .ioff) };
   notes = notesOf (r .notes .request) (r .notes .awaits) (r .notes .own) (r .notes .hold || holds);
+  low = r .low;
 }
 
 -- a translated cycle, by what its checks find: it is recorded, and "Every CPU violation also sets hold."

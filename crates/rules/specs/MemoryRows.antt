@@ -3,7 +3,7 @@
 use mathlib.Core.Bool.{Bool, true, false}
 use mathlib.Core.List.{List, [], _∷_, _++_}
 use Prim.Native.Nat.{ℕ}
-use Rattle.rules.specs.PowerOn.{faultsOf, notesOf}
+use Rattle.rules.specs.PowerOn.{storedOf, notesOf}
 use Rattle.rules.specs.Seen.{Row, row, segment, noNote, warned, everyNote, unitHolding, LOW, cycle}
 use Rattle.rules.specs.Seen.{drivesBlock, drivesNothing, translated}
 use Rattle.rules.specs.declared.Cycle.{Cycle}
@@ -13,14 +13,14 @@ use Rattle.rules.specs.declared.Kind.the-variants as kind
 
 -- a unit by MR, VTR, notes and the attributes of segment 5, which has base %2300 and limit %40
 abbrev pub unitAs : (mr vtr : ℕ) → Notes → (attributes : ℕ) → Unit
-unitAs mr vtr n a = unitHolding mr 0 0 (faultsOf vtr 0x6A 0x9C 0x38 0xE2) 0x53 0x71 n 5 (segment 0x2300 0x40 a)
+unitAs mr vtr n a = unitHolding mr 0 0 (storedOf vtr 0x6A 0x9C 0x38 0xE2) 0x53 0x71 n 5 (segment 0x2300 0x40 a)
 
 -- the same that translates; and with an instruction stored
 abbrev pub unitIn : (vtr : ℕ) → Notes → (attributes : ℕ) → Unit
 unitIn = unitAs 0xC0
 
 abbrev pub fetchedAt : (mr isn ioff : ℕ) → Notes → (attributes : ℕ) → Unit
-fetchedAt mr isn ioff n a = unitHolding mr 0 0 (faultsOf 0 0x6A 0x9C 0x38 0xE2) isn ioff n 5 (segment 0x2300 0x40 a)
+fetchedAt mr isn ioff n a = unitHolding mr 0 0 (storedOf 0 0x6A 0x9C 0x38 0xE2) isn ioff n 5 (segment 0x2300 0x40 a)
 
 -- cycles of segment 5
 abbrev pub fetchAt : (offset : ℕ) → Cycle
@@ -57,7 +57,7 @@ fetches =
     row (unitIn 0x20 (notesOf true false true true) 0) (fetchAt 0x41) (translated 0x2341 true true)
     (unitIn 0xA0 (notesOf true true false true) 0) ∷
     row (unitIn 0 noNote 0) (fetchAt 0x41) (translated 0x2341 true true)
-    (unitHolding 0xC0 0 0 (faultsOf 0x04 5 0x41 0x3D LOW) 0x53 0x71 everyNote 5 (segment 0x2300 0x40 0)) ∷
+    (unitHolding 0xC0 0 0 (storedOf 0x04 5 0x41 0x3D LOW) 0x53 0x71 everyNote 5 (segment 0x2300 0x40 0)) ∷
     row (unitAs 0x80 0 (notesOf true false true true) 0) (fetchAt 0x15) (drivesBlock kind.Passed 0x0515 false true) (unitAs 0x80 0 requested 0) ∷
     row (unitAs 0 0 (notesOf true false true true) 0) (fetchAt 0x15) (drivesNothing kind.Ignored false true) (unitAs 0 0 requested 0) ∷
     []
@@ -100,9 +100,9 @@ warns m status vtr n trap left k =
 abbrev pub firstEntries : List Row
 firstEntries =
     row (unitIn 0 noNote 0) (readAt 0x41) (translated 0x2341 true true)
-    (unitHolding 0xC0 0 0 (faultsOf 0x04 5 0x41 0x38 LOW) 0x53 0x71 everyNote 5 (segment 0x2300 0x40 0)) ∷
+    (unitHolding 0xC0 0 0 (storedOf 0x04 5 0x41 0x38 LOW) 0x53 0x71 everyNote 5 (segment 0x2300 0x40 0)) ∷
     row (unitIn 0 warned 0) (readAt 0x41) (translated 0x2341 true true)
-    (unitHolding 0xC0 0 0 (faultsOf 0x04 5 0x41 0x38 LOW) 0x53 0x71 everyNote 5 (segment 0x2300 0x40 0)) ∷
+    (unitHolding 0xC0 0 0 (storedOf 0x04 5 0x41 0x38 LOW) 0x53 0x71 everyNote 5 (segment 0x2300 0x40 0)) ∷
     []
 
 -- "A primary flag, and own set: flags are added, nothing else; addresses stay." "Every CPU violation also sets hold."

@@ -8,22 +8,30 @@ use Rattle.rules.specs.declared.Faults.{Faults}
 use Rattle.rules.specs.declared.Notes.{Notes}
 use Rattle.rules.specs.declared.Unit.{Unit}
 
--- ticket 8: and the low byte
-abbrev pub faultsOf : (vtr vsn voff bcsr low : ℕ) → Faults
-faultsOf vtr vsn voff bcsr low = record { vtr = vtr; vsn = vsn; voff = voff; bcsr = bcsr; low = low }
+abbrev pub faultsOf : (vtr vsn voff bcsr : ℕ) → Faults
+faultsOf vtr vsn voff bcsr = record { vtr = vtr; vsn = vsn; voff = voff; bcsr = bcsr }
 
 abbrev pub notesOf : (request awaits own hold : Bool) → Notes
 notesOf request awaits own hold = record { request = request; awaits = awaits; own = own; hold = hold }
 
+-- the faults, and ticket 8's low byte, which is stored with them
+pub record Stored : Type 0 where
+  pub faults : Faults
+  pub low : ℕ
+
+abbrev pub storedOf : (vtr vsn voff bcsr low : ℕ) → Stored
+storedOf vtr vsn voff bcsr low = record { faults = faultsOf vtr vsn voff bcsr; low = low }
+
 -- a unit by its descriptors and all its registers, in document 01's order
-abbrev pub unitOf : List Descriptor → (mr sar dscr : ℕ) → Faults → (isn ioff : ℕ) → Notes → Unit
-unitOf t mr sar dscr f isn ioff n = record {
+abbrev pub unitOf : List Descriptor → (mr sar dscr : ℕ) → Stored → (isn ioff : ℕ) → Notes → Unit
+unitOf t mr sar dscr s isn ioff n = record {
   table = t;
   registers = record {
     control = record { mr = mr; sar = sar; dscr = dscr };
-    faults = f;
+    faults = s .faults;
     fetched = record { isn = isn; ioff = ioff };
     notes = n;
+    low = s .low;
   };
 }
 
@@ -37,4 +45,4 @@ quiet = notesOf false false false false
 
 -- "At power-on all are zero and false."; ticket 8: "Power-on makes it 0"
 abbrev pub powerOn : Unit
-powerOn = unitOf (replicate 64 blank) 0 0 0 (faultsOf 0 0 0 0 0) 0 0 quiet
+powerOn = unitOf (replicate 64 blank) 0 0 0 (storedOf 0 0 0 0 0) 0 0 quiet

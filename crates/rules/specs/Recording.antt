@@ -33,9 +33,10 @@ busStatus c = with (with (c .status % 16) (flagIf (c .read) READ)) (flagIf (c .n
 unfoldable pub firstEntry : Registers → Cycle → (event : ℕ) → Registers
 firstEntry r c event = record {
   control = r .control;
-  faults = faultsOf (with (r .faults .vtr) event) (sevenBits c) (c .offset) (busStatus c) (c .low);
+  faults = faultsOf (with (r .faults .vtr) event) (sevenBits c) (c .offset) (busStatus c);
   fetched = r .fetched;
   notes = notesOf true true true (r .notes .hold);
+  low = c .low;
 }
 
 -- "flags are added, nothing else; addresses stay"

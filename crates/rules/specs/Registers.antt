@@ -7,17 +7,18 @@ use Rattle.rules.specs.declared.Registers.{Registers}
 
 -- MR, SAR and DSCR; "Other commands leave notes alone."
 abbrev pub withControl : Registers → Control → Registers
-withControl r k = record { control = k; faults = r .faults; fetched = r .fetched; notes = r .notes }
+withControl r k = record { control = k; faults = r .faults; fetched = r .fetched; notes = r .notes; low = r .low }
 
 -- the VTR; "addresses stay", the low byte with them
 abbrev pub withVtr : Registers → (vtr : ℕ) → Registers
 withVtr r vtr = record {
   control = r .control;
-  faults = faultsOf vtr (r .faults .vsn) (r .faults .voff) (r .faults .bcsr) (r .faults .low);
+  faults = faultsOf vtr (r .faults .vsn) (r .faults .voff) (r .faults .bcsr);
   fetched = r .fetched;
   notes = r .notes;
+  low = r .low;
 }
 
 -- the notes
 abbrev pub withNotes : Registers → Notes → Registers
-withNotes r n = record { control = r .control; faults = r .faults; fetched = r .fetched; notes = n }
+withNotes r n = record { control = r .control; faults = r .faults; fetched = r .fetched; notes = n; low = r .low }

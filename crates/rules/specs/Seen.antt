@@ -7,13 +7,12 @@ use Prim.Native.Nat.{ℕ, zero, suc}
 use lib.Dec.{eqb}
 use lib.ListN.{set}
 use Rattle.rules.specs.Kinds.{letterOf, numberOf}
-use Rattle.rules.specs.PowerOn.{faultsOf, notesOf, unitOf, quiet, powerOn}
+use Rattle.rules.specs.PowerOn.{Stored, storedOf, notesOf, unitOf, quiet, powerOn}
 use Rattle.rules.specs.Step.{stepped}
 use Rattle.rules.specs.Runs.{final}
 use Rattle.rules.specs.declared.Answer.{Answer}
 use Rattle.rules.specs.declared.Cycle.{Cycle}
 use Rattle.rules.specs.declared.Descriptor.{Descriptor}
-use Rattle.rules.specs.declared.Faults.{Faults}
 use Rattle.rules.specs.declared.Kind.{Kind}
 use Rattle.rules.specs.declared.Notes.{Notes}
 use Rattle.rules.specs.declared.Registers.{Registers}
@@ -63,7 +62,7 @@ abbrev pub sameRegisters : Registers → Registers → Bool
 sameRegisters r q =
     eqb (r .control .mr) (q .control .mr) && eqb (r .control .sar) (q .control .sar) && eqb (r .control .dscr) (q .control .dscr)
     && eqb (r .faults .vtr) (q .faults .vtr) && eqb (r .faults .vsn) (q .faults .vsn)
-    && eqb (r .faults .voff) (q .faults .voff) && eqb (r .faults .bcsr) (q .faults .bcsr) && eqb (r .faults .low) (q .faults .low)
+    && eqb (r .faults .voff) (q .faults .voff) && eqb (r .faults .bcsr) (q .faults .bcsr) && eqb (r .low) (q .low)
     && eqb (r .fetched .isn) (q .fetched .isn) && eqb (r .fetched .ioff) (q .fetched .ioff)
     && sameNotes (r .notes) (q .notes)
 
@@ -99,16 +98,16 @@ abbrev pub everyNote : Notes
 everyNote = notesOf true true true true
 
 -- a unit by all its registers, in document 01's order, and one descriptor
-abbrev pub unitHolding : (mr sar dscr : ℕ) → Faults → (isn ioff : ℕ) → Notes → (number : ℕ) → Descriptor → Unit
-unitHolding mr sar dscr f isn ioff n number d = unitOf (set (powerOn .table) number d) mr sar dscr f isn ioff n
+abbrev pub unitHolding : (mr sar dscr : ℕ) → Stored → (isn ioff : ℕ) → Notes → (number : ℕ) → Descriptor → Unit
+unitHolding mr sar dscr s isn ioff n number d = unitOf (set (powerOn .table) number d) mr sar dscr s isn ioff n
 
 -- a unit with MR and one descriptor, else as at power-on
 abbrev pub unitWith : (mr number : ℕ) → Descriptor → Unit
-unitWith mr n d = unitHolding mr 0 0 (faultsOf 0 0 0 0 0) 0 0 noNote n d
+unitWith mr n d = unitHolding mr 0 0 (storedOf 0 0 0 0 0) 0 0 noNote n d
 
--- MSEN and TRNS, what stands in the faults and notes, and segment 0
-abbrev pub standing : Faults → Notes → Descriptor → Unit
-standing f n d = unitHolding 0xC0 0 0 f 0 0 n 0 d
+-- MSEN and TRNS, what is stored, the notes, and segment 0
+abbrev pub standing : Stored → Notes → Descriptor → Unit
+standing s n d = unitHolding 0xC0 0 0 s 0 0 n 0 d
 
 abbrev pub translating : Descriptor → Unit
 translating d = unitWith 0xC0 0 d

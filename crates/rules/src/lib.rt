@@ -16,13 +16,12 @@ pub struct Control {
     pub dscr: u8,
 }
 
-// The VTR, and what its first entry stored. `low` is the low byte of the address, which no command shows.
+// The VTR, and what its first entry stored.
 pub struct Faults {
     pub vtr: u8,
     pub vsn: u8,
     pub voff: u8,
     pub bcsr: u8,
-    pub low: u8,
 }
 
 // Where the last instruction was fetched.
@@ -39,12 +38,14 @@ pub struct Notes {
     pub hold: bool,
 }
 
-// Everything that a unit keeps beside its descriptors.
+// Everything that a unit keeps beside its descriptors. `low` is a board's latch: the low byte of the address whose offset byte is VOFF. The chip
+// has no such register, and no command shows it.
 pub struct Registers {
     pub control: Control,
     pub faults: Faults,
     pub fetched: Fetched,
     pub notes: Notes,
+    pub low: u8,
 }
 
 // A unit record.
@@ -322,7 +323,6 @@ impl Unit {
                 vsn: 0,
                 voff: 0,
                 bcsr: 0,
-                low: 0,
             },
             fetched: Fetched { isn: 0, ioff: 0 },
             notes: Notes {
@@ -331,6 +331,7 @@ impl Unit {
                 own: false,
                 hold: false,
             },
+            low: 0,
         };
         Unit { table, registers }
     }

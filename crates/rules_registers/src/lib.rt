@@ -31,7 +31,6 @@ fn with_all(
             vsn: r.faults.vsn,
             voff: r.faults.voff,
             bcsr: r.faults.bcsr,
-            low: r.faults.low,
         },
         fetched: Fetched {
             isn: r.fetched.isn,
@@ -43,6 +42,7 @@ fn with_all(
             own,
             hold,
         },
+        low: r.low,
     }
 }
 

@@ -10,7 +10,7 @@ use lib.Dec.{ltb}
 use lib.ListN.{length, getD, take, drop, length-append}
 use borrow.Author.Tests.{le-ltb}
 use lib.Seq.{sets, sets-eq, take-suc, take-all, getD-append-add}
-use Rattle.rules.specs.PowerOn.{faultsOf, blank}
+use Rattle.rules.specs.PowerOn.{blank}
 use Rattle.rules.specs.declared.Descriptor.{Descriptor}
 use Rattle.rules.specs.declared.Notes.{Notes}
 use Rattle.rules.specs.declared.Registers.{Registers}
@@ -74,15 +74,16 @@ module _ (r : Registers) (t : List Descriptor) (rest : List ℕ) where
       let first : length (tableBytes t) ≡ descriptorSize * segments = table-length t ∙ ap (λ (n : ℕ). descriptorSize * n) size in
       ap (λ (k : ℕ). getD (tableBytes t ++ (low ∷ rest)) (k + 0) 0) (sym first) ∙ getD-append-add (tableBytes t) (low ∷ rest) 0 0
 
-  registers-found : length t ≡ segments → registersIn (registerBytes r ++ tableBytes t ++ (r .faults .low ∷ rest)) ≡ r
+  registers-found : length t ≡ segments → registersIn (registerBytes r ++ tableBytes t ++ (r .low ∷ rest)) ≡ r
   unfolding registersIn registerBytes
   registers-found size =
-      let low : _ ≡ r .faults .low = low-found (r .faults .low) size in
+      let low : _ ≡ r .low = low-found (r .low) size in
       λ i. record {
         control = r .control;
-        faults = faultsOf (r .faults .vtr) (r .faults .vsn) (r .faults .voff) (r .faults .bcsr) (low i);
+        faults = r .faults;
         fetched = r .fetched;
         notes = notes-found (r .notes) i;
+        low = low i;
       }
 
 -- ---- the whole
@@ -92,20 +93,20 @@ pub unit-length : (u : Unit) → length (u .table) ≡ segments → length (unit
 unfolding unitBytes registerBytes
 unit-length u size =
     let table : length (tableBytes (u .table)) ≡ descriptorSize * length (u .table) = table-length (u .table) in
-    let behind : length (tableBytes (u .table) ++ (u .registers .faults .low ∷ [])) ≡ length (tableBytes (u .table)) + 1 =
-    length-append (tableBytes (u .table)) (u .registers .faults .low ∷ []) in
+    let behind : length (tableBytes (u .table) ++ (u .registers .low ∷ [])) ≡ length (tableBytes (u .table)) + 1 =
+    length-append (tableBytes (u .table)) (u .registers .low ∷ []) in
     omega arith
 
 module _ (l : List ℕ) (u : Unit) (room : unitSize ≤ length l) (size : length (u .table) ≡ segments) where
   rest : List ℕ
   rest = drop (0 + length (unitBytes u)) l
 
-  shape : sets l 0 (unitBytes u) ≡ registerBytes (u .registers) ++ tableBytes (u .table) ++ (u .registers .faults .low ∷ rest)
+  shape : sets l 0 (unitBytes u) ≡ registerBytes (u .registers) ++ tableBytes (u .table) ++ (u .registers .low ∷ rest)
   unfolding unitBytes registerBytes rest
   shape =
       let first : List ℕ = registerBytes (u .registers) in
       let table : List ℕ = tableBytes (u .table) in
-      let last : List ℕ = u .registers .faults .low ∷ [] in
+      let last : List ℕ = u .registers .low ∷ [] in
       sets-eq (unitBytes u) l 0 (omega (arith, unit-length u size))
       ∙ append-assoc first (table ++ last) rest
       ∙ ap (λ (x : List ℕ). first ++ x) (append-assoc table last rest)
@@ -119,7 +120,7 @@ module _ (l : List ℕ) (u : Unit) (room : unitSize ≤ length l) (size : length
   whole =
       let r : Registers = u .registers in
       let t : List Descriptor = u .table in
-      let behind : List ℕ = r .faults .low ∷ rest in
+      let behind : List ℕ = r .low ∷ rest in
       let x : List ℕ = registerBytes r ++ tableBytes t ++ behind in
       let all : tableIn x segments ≡ t = table-found r t behind segments (omega arith) ∙ take-all segments t (omega arith) in
       ap unitIn shape

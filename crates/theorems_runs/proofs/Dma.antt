@@ -8,7 +8,7 @@ use Rattle.rules.specs.Bus.{cpu, fetch}
 use Rattle.rules.specs.Checks.{found}
 use Rattle.rules.specs.Flags.{has}
 use Rattle.rules.specs.Masks.{RD, TRNS}
-use Rattle.rules.specs.PowerOn.{faultsOf, notesOf, blank, powerOn}
+use Rattle.rules.specs.PowerOn.{storedOf, notesOf, blank, powerOn}
 use Rattle.rules.specs.Refusals.{damaged, outOfRange}
 use Rattle.rules.specs.Replies.{off, plain, refused, seen}
 use Rattle.rules.specs.Seen.{segment, cycleWith, noNote, cycle, command, unitHolding, unitWith, acknowledge as acknowledges}
@@ -211,10 +211,10 @@ whole : Unit
 whole = unitWith 0x80 0 blank
 
 held : Unit
-held = unitHolding 0 0 0 (faultsOf 0 0 0 0 0) 0 0 (notesOf false false false true) 0 blank
+held = unitHolding 0 0 0 (storedOf 0 0 0 0 0) 0 0 (notesOf false false false true) 0 blank
 
 broken : Unit
-broken = unitHolding 0x80 64 0 (faultsOf 0 0 0 0 0) 0 0 noNote 0 blank
+broken = unitHolding 0x80 64 0 (storedOf 0 0 0 0 0) 0 0 noNote 0 blank
 
 withFlags : (attributes : ℕ) → Unit
 withFlags a = unitWith 0xC0 0 (segment 0 0xFF a)

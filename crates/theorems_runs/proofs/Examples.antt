@@ -7,7 +7,7 @@ use Prim.Native.Nat.{ℕ, zero, suc, _<_}
 use lib.Dec.{lit≤}
 use lib.ListN.{getD, replicate}
 use Rattle.rules.specs.Masks.{RD, CPUI}
-use Rattle.rules.specs.PowerOn.{faultsOf, notesOf, unitOf, blank}
+use Rattle.rules.specs.PowerOn.{storedOf, notesOf, unitOf, blank}
 use Rattle.rules.specs.Refusals.{damaged}
 use Rattle.rules.specs.Seen.{segment}
 use Rattle.rules.specs.declared.Descriptor.{Descriptor}
@@ -19,7 +19,7 @@ use Rattle.theorems_runs.proofs.Wider.{wider-refl}
 -- MR, SAR, DSCR, hold and the descriptors of segments 0 to 2, all else as at power-on
 abbrev pub unitOfThree : (mr sar dscr : ℕ) → (hold : Bool) → (x y z : Descriptor) → Unit
 unitOfThree mr sar dscr hold x y z =
-    unitOf (x ∷ y ∷ z ∷ replicate 61 blank) mr sar dscr (faultsOf 0 0 0 0 0) 0 0 (notesOf false false false hold)
+    unitOf (x ∷ y ∷ z ∷ replicate 61 blank) mr sar dscr (storedOf 0 0 0 0 0) 0 0 (notesOf false false false hold)
 
 -- the descriptors of segments 0 to 2, MR %C0 (MSEN and TRNS set)
 abbrev pub unit : (x y z : Descriptor) → Unit

@@ -40,7 +40,7 @@ use Rattle.theorems_runs.proofs.Ways.{records, by-row, made}
 -- The latch is shut exactly while a primary flag stands, and the trap line is on only then
 
 record Fits (l : Latch) (r : Registers) : Type 0 where
-  byte : l .byte ≡ r .faults .low
+  byte : l .byte ≡ r .low
   shut : l .shut ≡ not (lacks (r .faults .vtr) PRIMARY)
   line : lacks (r .faults .vtr) PRIMARY ≡ true → r .notes .request ≡ false
 
@@ -50,7 +50,7 @@ next l c r s = latchedBy (not (r .notes .request) && s .notes .request) false (c
 
 module _ (l : Latch) (c : Cycle) (r : Registers) (f : Fits l r) where
   -- the line did not go on, and the low byte and the primary flags stayed
-  quiet-fits : (s : Registers) → s .faults .low ≡ r .faults .low → lacks (s .faults .vtr) PRIMARY ≡ lacks (r .faults .vtr) PRIMARY
+  quiet-fits : (s : Registers) → s .low ≡ r .low → lacks (s .faults .vtr) PRIMARY ≡ lacks (r .faults .vtr) PRIMARY
       → (s .notes .request ≡ true → r .notes .request ≡ true) → Fits (next l c r s) s
   quiet-fits s low flags down = go (r .notes .request) (s .notes .request) refl refl
     where
@@ -72,7 +72,7 @@ module _ (l : Latch) (c : Cycle) (r : Registers) (f : Fits l r) where
       go false false p q = fits
 
   -- a latch that is shut stays as it is
-  shut-fits : (s : Registers) → lacks (r .faults .vtr) PRIMARY ≡ false → s .faults .low ≡ r .faults .low
+  shut-fits : (s : Registers) → lacks (r .faults .vtr) PRIMARY ≡ false → s .low ≡ r .low
       → lacks (s .faults .vtr) PRIMARY ≡ false → Fits (next l c r s) s
   shut-fits s stood low stands = go (not (r .notes .request) && s .notes .request)
     where
@@ -90,7 +90,7 @@ module _ (l : Latch) (c : Cycle) (r : Registers) (f : Fits l r) where
           record { byte = f .byte ∙ sym low; shut = closed ∙ sym (ap not stands); line = λ e. absurd (false≢true (sym stands ∙ e)) }
 
   -- the first entry: the line goes on, and the latch takes the low byte
-  first-fits : (s : Registers) → lacks (r .faults .vtr) PRIMARY ≡ true → s .notes .request ≡ true → s .faults .low ≡ c .low
+  first-fits : (s : Registers) → lacks (r .faults .vtr) PRIMARY ≡ true → s .notes .request ≡ true → s .low ≡ c .low
       → lacks (s .faults .vtr) PRIMARY ≡ false → Fits (next l c r s) s
   first-fits s none on low stands =
       rw (f .line none, on)

@@ -169,7 +169,7 @@ unfolding computed
 low-kept claim =
     let c : Cycle = cycle false false true 8 1 0 in
     false≢true
-    (ap (λ (us : List Unit). eqb (head us .registers .faults .low) 0)
+    (ap (λ (us : List Unit). eqb (head us .registers .low) 0)
     (claim start (c ∷ []) (bareCycle c ∷ []) (refl, refl)))
   where
     start : Unit
@@ -184,7 +184,7 @@ stored-address : (u : Unit) (c : Cycle) → keptAddress (stepped u c .unit) ≡ 
 stored-address u c = whole (storesFault u c) (stored-exactly u c .vsn) (stored-exactly u c .voff) (stored-exactly u c .low)
   where
     whole : (t : Bool) {s o l : ℕ} → s ≡ cond t (c .segment) (u .registers .faults .vsn)
-        → o ≡ cond t (c .offset) (u .registers .faults .voff) → l ≡ cond t (c .low) (u .registers .faults .low)
+        → o ≡ cond t (c .offset) (u .registers .faults .voff) → l ≡ cond t (c .low) (u .registers .low)
         → record { segment = s; offset = o; low = l } ≡ cond t (addressIn c) (keptAddress u)
     whole true s o l = λ i. record { segment = s i; offset = o i; low = l i }
     whole false s o l = λ i. record { segment = s i; offset = o i; low = l i }

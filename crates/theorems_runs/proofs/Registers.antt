@@ -75,7 +75,7 @@ controlBy false false false false c k = k
 
 -- what stands beside the VTR after a cycle that stores it or not, from the registers before: the faults, with no VTR
 abbrev pub companions : (stores : Bool) → Cycle → Registers → Faults
-companions stores c r = cond stores (faultsOf 0 (sevenBits c) (c .offset) (busStatus c) (c .low)) (withVtr r 0 .faults)
+companions stores c r = cond stores (faultsOf 0 (sevenBits c) (c .offset) (busStatus c)) (withVtr r 0 .faults)
 
 -- and ISN and IOFF
 abbrev pub instruction : (stores : Bool) → Cycle → Registers → Fetched
@@ -86,6 +86,7 @@ pub record Leaves (r : Registers) (c : Cycle) (x : Decision) (k : Control) (h fi
   pub control : x .registers .control ≡ k
   pub hold : x .registers .notes .hold ≡ h
   pub faults : withVtr (x .registers) 0 .faults ≡ companions first c r
+  pub low : x .registers .low ≡ cond first (c .low) (r .low)
   pub fetched : x .registers .fetched ≡ instruction start c r
 
 -- all but what a row records stays in it
@@ -104,18 +105,20 @@ recorded-beside r c e =
 
 -- "No primary flag in VTR": the first row alone stores
 recorded-companions : (r : Registers) (c : Cycle) (e : ℕ)
-    → withVtr (recorded r c e) 0 .faults ≡ companions (not (eqb e 0) && lacks (r .faults .vtr) PRIMARY) c r
+    → (withVtr (recorded r c e) 0 .faults ≡ companions (not (eqb e 0) && lacks (r .faults .vtr) PRIMARY) c r)
+    × (recorded r c e .low ≡ cond (not (eqb e 0) && lacks (r .faults .vtr) PRIMARY) (c .low) (r .low))
 unfolding recorded firstEntry added raised
 recorded-companions r c e =
     go (eqb e 0) (lacks (r .faults .vtr) PRIMARY) (r .notes .own) (stackWarning c e) (has (r .faults .vtr) SWW)
   where
-    go : (n f o s t : Bool) → withVtr (rowOf n f o s t r c e) 0 .faults ≡ companions (not n && f) c r
-    go true f o s t = refl
-    go false true o s t = refl
-    go false false true s t = refl
-    go false false false true true = refl
-    go false false false true false = refl
-    go false false false false t = refl
+    go : (n f o s t : Bool)
+        → (withVtr (rowOf n f o s t r c e) 0 .faults ≡ companions (not n && f) c r) × (rowOf n f o s t r c e .low ≡ cond (not n && f) (c .low) (r .low))
+    go true f o s t = (refl, refl)
+    go false true o s t = (refl, refl)
+    go false false true s t = (refl, refl)
+    go false false false true true = (refl, refl)
+    go false false false true false = (refl, refl)
+    go false false false false t = (refl, refl)
 
 noted-instruction : (m : Registers) (stores holds : Bool) (c : Cycle) → noted m stores holds c .fetched ≡ instruction stores c m
 unfolding noted
@@ -138,7 +141,8 @@ module _ (r : Registers) (d : Descriptor) (c : Cycle) where
       record {
         control = m .control;
         hold = ap (λ (h : Bool). h || (fails d c && cpu c)) (m .hold) ∙ or-comm (s .notes .hold) (fails d c && cpu c);
-        faults = recorded-companions s c e;
+        faults = recorded-companions s c e .0;
+        low = recorded-companions s c e .1;
         fetched =
             noted-instruction (recorded s c e) t (fails d c && cpu c) c
             ∙ ap (λ (f : Fetched). cond t (record { isn = sevenBits c; ioff = c .offset }) f) (m .fetched);
@@ -149,26 +153,27 @@ module _ (r : Registers) (d : Descriptor) (c : Cycle) where
       (not b && isTranslated w && (eventful d c && lacks (r .faults .vtr) PRIMARY)) (not b && isTranslated w && storing r c (fails d c))
   unfolding aborted resumed untranslated begun
   memory-leaves true w l f =
-      record { control = refl; hold = sym (ap (λ (t : Bool). not t && r .notes .hold) (f refl)); faults = refl; fetched = refl }
+      record { control = refl; hold = sym (ap (λ (t : Bool). not t && r .notes .hold) (f refl)); faults = refl; low = refl; fetched = refl }
   memory-leaves false way.Translated l f =
       let x : _ = accessed-leaves (begun r (fetch c)) l in
       record {
         control = x .control;
         hold = x .hold ∙ ap (λ (h : Bool). fails d c && cpu c || h) (and-comm (r .notes .hold) (not (fetch c)));
         faults = x .faults;
+        low = x .low;
         fetched = x .fetched;
       }
-  memory-leaves false way.Passed l f = record { control = refl; hold = and-comm (r .notes .hold) (not (fetch c)); faults = refl; fetched = refl }
-  memory-leaves false way.Silent l f = record { control = refl; hold = and-comm (r .notes .hold) (not (fetch c)); faults = refl; fetched = refl }
+  memory-leaves false way.Passed l f = record { control = refl; hold = and-comm (r .notes .hold) (not (fetch c)); faults = refl; low = refl; fetched = refl }
+  memory-leaves false way.Silent l f = record { control = refl; hold = and-comm (r .notes .hold) (not (fetch c)); faults = refl; low = refl; fetched = refl }
 
   acted-leaves : (a : Action) → Leaves r c (acted r a) (actControl a (r .control)) (not (isSoftwareReset (Act a)) && r .notes .hold) false false
   unfolding acted plain restarted
-  acted-leaves SoftwareReset = record { control = refl; hold = refl; faults = refl; fetched = refl }
-  acted-leaves ClearVtr = record { control = refl; hold = refl; faults = refl; fetched = refl }
-  acted-leaves ClearSww = record { control = refl; hold = refl; faults = refl; fetched = refl }
-  acted-leaves ClearFatl = record { control = refl; hold = refl; faults = refl; fetched = refl }
-  acted-leaves SetCpui = record { control = refl; hold = refl; faults = refl; fetched = refl }
-  acted-leaves SetDmai = record { control = refl; hold = refl; faults = refl; fetched = refl }
+  acted-leaves SoftwareReset = record { control = refl; hold = refl; faults = refl; low = refl; fetched = refl }
+  acted-leaves ClearVtr = record { control = refl; hold = refl; faults = refl; low = refl; fetched = refl }
+  acted-leaves ClearSww = record { control = refl; hold = refl; faults = refl; low = refl; fetched = refl }
+  acted-leaves ClearFatl = record { control = refl; hold = refl; faults = refl; low = refl; fetched = refl }
+  acted-leaves SetCpui = record { control = refl; hold = refl; faults = refl; low = refl; fetched = refl }
+  acted-leaves SetDmai = record { control = refl; hold = refl; faults = refl; low = refl; fetched = refl }
 
   keeps-hold : (t : Bool) → r .notes .hold ≡ (not (t && false) && r .notes .hold)
   keeps-hold t = rw (and-false t)
@@ -176,15 +181,15 @@ module _ (r : Registers) (d : Descriptor) (c : Cycle) where
   executed-leaves : (m : Command) (read : Bool)
       → Leaves r c (executed m read r d c) (commandControl m read c (r .control)) (not (not read && isSoftwareReset m) && r .notes .hold) false false
   unfolding executed programmed replied entry refused plain
-  executed-leaves Mr read = record { control = refl; hold = keeps-hold (not read); faults = refl; fetched = refl }
-  executed-leaves Sar read = record { control = refl; hold = keeps-hold (not read); faults = refl; fetched = refl }
-  executed-leaves Dscr read = record { control = refl; hold = keeps-hold (not read); faults = refl; fetched = refl }
-  executed-leaves (Show g) true = record { control = refl; hold = refl; faults = refl; fetched = refl }
-  executed-leaves (Show g) false = record { control = refl; hold = refl; faults = refl; fetched = refl }
-  executed-leaves (Entry p) read = record { control = refl; hold = keeps-hold (not read); faults = refl; fetched = refl }
-  executed-leaves (Act a) true = record { control = refl; hold = refl; faults = refl; fetched = refl }
+  executed-leaves Mr read = record { control = refl; hold = keeps-hold (not read); faults = refl; low = refl; fetched = refl }
+  executed-leaves Sar read = record { control = refl; hold = keeps-hold (not read); faults = refl; low = refl; fetched = refl }
+  executed-leaves Dscr read = record { control = refl; hold = keeps-hold (not read); faults = refl; low = refl; fetched = refl }
+  executed-leaves (Show g) true = record { control = refl; hold = refl; faults = refl; low = refl; fetched = refl }
+  executed-leaves (Show g) false = record { control = refl; hold = refl; faults = refl; low = refl; fetched = refl }
+  executed-leaves (Entry p) read = record { control = refl; hold = keeps-hold (not read); faults = refl; low = refl; fetched = refl }
+  executed-leaves (Act a) true = record { control = refl; hold = refl; faults = refl; low = refl; fetched = refl }
   executed-leaves (Act a) false = acted-leaves a
-  executed-leaves Unlisted read = record { control = refl; hold = keeps-hold (not read); faults = refl; fetched = refl }
+  executed-leaves Unlisted read = record { control = refl; hold = keeps-hold (not read); faults = refl; low = refl; fetched = refl }
 
   -- a CPU violation of a memory cycle
   unfoldable pub violated : Bool
@@ -204,19 +209,20 @@ module _ (r : Registers) (d : Descriptor) (c : Cycle) where
       && r .notes .hold)
       (isMemory p && faultStored) (isMemory p && fetchStored)
   unfolding violated faultStored fetchStored acknowledged quieted ignored plain commanded memory
-  purpose-leaves purpose.Acknowledge true y = record { control = refl; hold = refl; faults = refl; fetched = refl }
-  purpose-leaves purpose.Acknowledge false y = record { control = refl; hold = refl; faults = refl; fetched = refl }
+  purpose-leaves purpose.Acknowledge true y = record { control = refl; hold = refl; faults = refl; low = refl; fetched = refl }
+  purpose-leaves purpose.Acknowledge false y = record { control = refl; hold = refl; faults = refl; low = refl; fetched = refl }
   purpose-leaves purpose.Command x true = executed-leaves (commandOf (c .offset)) (c .read)
-  purpose-leaves purpose.Command x false = record { control = refl; hold = refl; faults = refl; fetched = refl }
+  purpose-leaves purpose.Command x false = record { control = refl; hold = refl; faults = refl; low = refl; fetched = refl }
   purpose-leaves purpose.Memory x y =
       let m : _ = memory-leaves (aborts r c) (wayOf (r .control .mr) c) _ (λ e. and-l (fetch c) _ e) in
       record {
         control = m .control;
         hold = m .hold ∙ ap (λ (t : Bool). violated || not t && r .notes .hold) (sym (or-false (fetch c)));
         faults = m .faults;
+        low = m .low;
         fetched = m .fetched;
       }
-  purpose-leaves purpose.Other x y = record { control = refl; hold = refl; faults = refl; fetched = refl }
+  purpose-leaves purpose.Other x y = record { control = refl; hold = refl; faults = refl; low = refl; fetched = refl }
 
   -- a fetch is a memory cycle
   fetch-memory : (isMemory (purposeOf (c .status)) && fetch c) ≡ fetch c
@@ -239,9 +245,9 @@ module _ (r : Registers) (d : Descriptor) (c : Cycle) where
       (not two && not one && (not reset && (leb 8 (c .status) && leb (c .status) 13)) && faultStored)
       (not two && not one && (not reset && (leb 8 (c .status) && leb (c .status) 13)) && fetchStored)
   unfolding refused plain resetBy restarted byStatus
-  decided-leaves true one reset = record { control = refl; hold = refl; faults = refl; fetched = refl }
-  decided-leaves false true reset = record { control = refl; hold = refl; faults = refl; fetched = refl }
-  decided-leaves false false true = record { control = refl; hold = refl; faults = refl; fetched = refl }
+  decided-leaves true one reset = record { control = refl; hold = refl; faults = refl; low = refl; fetched = refl }
+  decided-leaves false true reset = record { control = refl; hold = refl; faults = refl; low = refl; fetched = refl }
+  decided-leaves false false true = record { control = refl; hold = refl; faults = refl; low = refl; fetched = refl }
   decided-leaves false false false =
       let x : _ = purpose-leaves (purposeOf (c .status)) (cpu c) (cpu c && c .select) in
       rw (← command-status (c .status), ← acknowledge-status (c .status), ← memory-status (c .status), ← software-reset-code (c .offset))
@@ -256,6 +262,7 @@ module _ (r : Registers) (d : Descriptor) (c : Cycle) where
             || isCommand (purposeOf (c .status)) && (cpu c && c .select) && write c && isSoftwareReset (commandOf (c .offset)))
             && r .notes .hold) fetch-memory;
         faults = x .faults;
+        low = x .low;
         fetched = x .fetched;
       })
 

@@ -13,7 +13,7 @@ use Rattle.rules.specs.Bus.{cpu, fetch}
 use Rattle.rules.specs.Checks.{rightsOf, outOfLength, found}
 use Rattle.rules.specs.Flags.{has, lacks, with, flagIf}
 use Rattle.rules.specs.Masks.{SLV, DIRW, PWW, SWW, FATL, PRIMARY}
-use Rattle.rules.specs.PowerOn.{faultsOf, notesOf, unitOf, blank, powerOn}
+use Rattle.rules.specs.PowerOn.{storedOf, notesOf, unitOf, blank, powerOn}
 use Rattle.rules.specs.Refusals.{damaged, outOfRange}
 use Rattle.rules.specs.Seen.{segment, cycle}
 use Rattle.rules.specs.Runs.{final}
@@ -198,7 +198,7 @@ reported-from-power-on cs c = violation-reported (final powerOn cs) c (always Ow
 -- MR %E0, segment 1 from %FF down, and a VTR and an own made by hand
 faultedUnit : (vtr : ℕ) → (own : Bool) → Unit
 faultedUnit vtr own =
-    unitOf (blank ∷ segment 0 0xFF DIRW ∷ replicate 62 blank) 0xE0 0 0 (faultsOf vtr 0 0 0 0) 0 0 (notesOf false false own false)
+    unitOf (blank ∷ segment 0 0xFF DIRW ∷ replicate 62 blank) 0xE0 0 0 (storedOf vtr 0 0 0 0) 0 0 (notesOf false false own false)
 
 -- VTR %02, own without request; a system write at segment 65, offset %00, adds SLV and asks for nothing
 pub own-needed : OwnNeeded

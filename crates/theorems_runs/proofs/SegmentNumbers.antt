@@ -167,7 +167,7 @@ stored-exactly u c =
           ∙ part-stored (λ (f : Faults). f .vsn) (storesFault u c) _ _ (c .segment) (λ e. whole u c (fault-translated u c e));
       voff = ap (λ (f : Faults). f .voff) first ∙ part-stored (λ (f : Faults). f .voff) (storesFault u c) _ _ (c .offset) (λ e. refl);
       bcsr = ap (λ (f : Faults). f .bcsr) first ∙ part-stored (λ (f : Faults). f .bcsr) (storesFault u c) _ _ (busStatus c) (λ e. refl);
-      low = ap (λ (f : Faults). f .low) first ∙ part-stored (λ (f : Faults). f .low) (storesFault u c) _ _ (c .low) (λ e. refl);
+      low = leaves u c .low ∙ ap (λ (t : Bool). cond t (c .low) (u .registers .low)) (first-exactly u c);
       isn =
           ap (λ (f : Fetched). f .isn) start
           ∙ part-stored (λ (f : Fetched). f .isn) (storesFetch u c) _ _ (c .segment) (λ e. whole u c (fetch-translated u c e));

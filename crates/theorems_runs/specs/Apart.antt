@@ -6,7 +6,7 @@ use mathlib.Core.List.{List, [], _∷_}
 use Prim.Native.Nat.{ℕ, _+_, _*_}
 use lib.Dec.{eqb}
 use lib.ListN.{getD}
-use Rattle.rules.specs.PowerOn.{faultsOf, notesOf, unitOf, blank, powerOn}
+use Rattle.rules.specs.PowerOn.{storedOf, notesOf, unitOf, blank, powerOn}
 use Rattle.rules.specs.Runs.{final}
 use Rattle.rules.specs.declared.Cycle.{Cycle}
 use Rattle.rules.specs.declared.Unit.{Unit}
@@ -15,7 +15,7 @@ use Rattle.theorems_runs.specs.Sequences.{all}
 
 -- every set and clear command has something to do here: MR %C0, DSCR 3, VTR %E0, the trap line stands; all else as at power-on
 abbrev pub standing : Unit
-standing = unitOf (powerOn .table) 0xC0 0 3 (faultsOf 0xE0 0 0 0 0) 0 0 (notesOf true false false false)
+standing = unitOf (powerOn .table) 0xC0 0 3 (storedOf 0xE0 0 0 0 0) 0 0 (notesOf true false false false)
 
 -- a command that writes %01
 abbrev pub put : (code : ℕ) → Cycle

@@ -8,7 +8,7 @@ use lib.Dec.{eqb}
 use Rattle.rules.specs.Bus.{write}
 use Rattle.rules.specs.Flags.{has}
 use Rattle.rules.specs.Masks.{RDV, SYSV, SLV, CPUIV, EXCV, PWW}
-use Rattle.rules.specs.PowerOn.{faultsOf, blank}
+use Rattle.rules.specs.PowerOn.{storedOf, blank}
 use Rattle.rules.specs.Runs.{units}
 use Rattle.rules.specs.Seen.{noNote, unitHolding}
 use Rattle.rules.specs.Step.{stepped}
@@ -34,7 +34,7 @@ pub record FaultKept (r s : Registers) : Type 0 where
   pub vsn : s .faults .vsn ≡ r .faults .vsn
   pub voff : s .faults .voff ≡ r .faults .voff
   pub bcsr : s .faults .bcsr ≡ r .faults .bcsr
-  pub low : s .faults .low ≡ r .faults .low
+  pub low : s .low ≡ r .low
   pub isn : s .fetched .isn ≡ r .fetched .isn
   pub ioff : s .fetched .ioff ≡ r .fetched .ioff
 
@@ -58,7 +58,7 @@ FlagNeeded = KeptFrom (λ r. true ≡ true) WipesNot → ⊥
 
 -- a unit with this VTR, all else as at power-on
 abbrev pub faultedBy : (vtr : ℕ) → Unit
-faultedBy vtr = unitHolding 0 0 0 (faultsOf vtr 0 0 0 0) 0 0 noNote 0 blank
+faultedBy vtr = unitHolding 0 0 0 (storedOf vtr 0 0 0 0) 0 0 noNote 0 blank
 
 -- CLAIM: each of the three does wipe it: a reset, a software reset, clear VTR. So none of them can be left out above.
 abbrev pub EachWipes : Type 0

@@ -37,7 +37,7 @@ latchAfter by l u (c ∷ cs) = latchAfter by (by (rises u c) (wipes u c) (c .low
 abbrev pub LatchHas : (by : (rises wiped : Bool) → (low : ℕ) → Latch → Latch) → (May : Unit → Cycle → Type 0) → Type 0
 LatchHas by May =
     (cs : List Cycle) → Along May powerOn cs
-    → latchAfter by (record { shut = false; byte = 0 }) powerOn cs .byte ≡ final powerOn cs .registers .faults .low
+    → latchAfter by (record { shut = false; byte = 0 }) powerOn cs .byte ≡ final powerOn cs .registers .low
 
 -- clear VTR comes when the trap line is off: the handler's acknowledge was before it
 abbrev pub ClearsLate : Unit → Cycle → Type 0

@@ -4,7 +4,6 @@ use mathlib.Core.Path.{_≡_}
 use mathlib.Core.Bool.{true, false, cond}
 use mathlib.Core.List.{List, [], _∷_}
 use Prim.Native.Nat.{ℕ}
-use Rattle.rules.specs.PowerOn.{faultsOf}
 use Rattle.rules.specs.Runs.{answers, final, units}
 use Rattle.rules.specs.Seen.{cycleWith}
 use Rattle.rules.specs.Step.{stepped}
@@ -18,12 +17,7 @@ use Rattle.theorems_runs.specs.Sequences.{Both, Along}
 
 -- registers, a unit and a cycle with 0 for their low byte
 abbrev pub bareRegisters : Registers → Registers
-bareRegisters r = record {
-  control = r .control;
-  faults = faultsOf (r .faults .vtr) (r .faults .vsn) (r .faults .voff) (r .faults .bcsr) 0;
-  fetched = r .fetched;
-  notes = r .notes;
-}
+bareRegisters r = record { control = r .control; faults = r .faults; fetched = r .fetched; notes = r .notes; low = 0 }
 
 abbrev pub bareUnit : Unit → Unit
 bareUnit u = record { table = u .table; registers = bareRegisters (u .registers) }
@@ -59,7 +53,7 @@ pub record WholeAddress : Type 0 where
   pub low : ℕ
 
 abbrev pub keptAddress : Unit → WholeAddress
-keptAddress u = record { segment = u .registers .faults .vsn; offset = u .registers .faults .voff; low = u .registers .faults .low }
+keptAddress u = record { segment = u .registers .faults .vsn; offset = u .registers .faults .voff; low = u .registers .low }
 
 abbrev pub addressIn : Cycle → WholeAddress
 addressIn c = record { segment = c .segment; offset = c .offset; low = c .low }

@@ -41,7 +41,7 @@ pub record StoredBy (u : Unit) (c : Cycle) (r : Registers) : Type 0 where
   pub vsn : r .faults .vsn ≡ cond (storesFault u c) (c .segment) (u .registers .faults .vsn)
   pub voff : r .faults .voff ≡ cond (storesFault u c) (c .offset) (u .registers .faults .voff)
   pub bcsr : r .faults .bcsr ≡ cond (storesFault u c) (busStatus c) (u .registers .faults .bcsr)
-  pub low : r .faults .low ≡ cond (storesFault u c) (c .low) (u .registers .faults .low)
+  pub low : r .low ≡ cond (storesFault u c) (c .low) (u .registers .low)
   pub isn : r .fetched .isn ≡ cond (storesFetch u c) (c .segment) (u .registers .fetched .isn)
   pub ioff : r .fetched .ioff ≡ cond (storesFetch u c) (c .offset) (u .registers .fetched .ioff)
 

@@ -3,7 +3,7 @@
 use mathlib.Core.Path.{_≡_}
 use mathlib.Core.Bool.{Bool, true, false, _&&_, _||_}
 use mathlib.Core.List.{List, [], _∷_}
-use Rattle.rules.specs.PowerOn.{faultsOf, notesOf, unitOf, powerOn}
+use Rattle.rules.specs.PowerOn.{storedOf, notesOf, unitOf, powerOn}
 use Rattle.rules.specs.Runs.{answers}
 use Rattle.rules.specs.Step.{stepped}
 use Rattle.rules.specs.declared.Cycle.{Cycle}
@@ -32,7 +32,7 @@ TrapStands =
 
 -- a unit whose trap line stands, all else as at power-on
 abbrev pub requesting : Unit
-requesting = unitOf (powerOn .table) 0 0 0 (faultsOf 0 0 0 0 0) 0 0 (notesOf true false false false)
+requesting = unitOf (powerOn .table) 0 0 0 (storedOf 0 0 0 0 0) 0 0 (notesOf true false false false)
 
 -- CLAIM: each of the three does take it back: an acknowledge, a reset, a software reset. So none of them can be left out above.
 abbrev pub EachTakesBack : Type 0

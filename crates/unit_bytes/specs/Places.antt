@@ -7,7 +7,7 @@ use mathlib.Core.Path.{_≡_}
 use Prim.Native.Nat.{ℕ, _/_, _%_}
 use lib.Dec.{eqb}
 use lib.ListN.{length, getD, set, replicate}
-use Rattle.rules.specs.PowerOn.{faultsOf, notesOf, unitOf, blank}
+use Rattle.rules.specs.PowerOn.{storedOf, notesOf, unitOf, blank}
 use Rattle.rules.specs.Seen.{segment}
 use Rattle.rules.specs.declared.Notes.{Notes}
 use Rattle.rules.specs.declared.Unit.{Unit}
@@ -19,7 +19,7 @@ abbrev pub sampleUnit : Unit
 sampleUnit =
     unitOf
     (set (set (set (replicate segments blank) 0 (segment 0xA1A2 0xA3 0xA4)) 1 (segment 0xB1B2 0xB3 0xB4)) 63 (segment 0xC1C2 0xC3 0xC4))
-    0xD0 0x21 0x02 (faultsOf 0x43 0x24 0x85 0x36 0xE9) 0x27 0x98 (notesOf true false true false)
+    0xD0 0x21 0x02 (storedOf 0x43 0x24 0x85 0x36 0xE9) 0x27 0x98 (notesOf true false true false)
 
 -- ---- its bytes
 
@@ -69,7 +69,7 @@ byteRows =
     ∷ byteRow 263 0xC2 (low 63)
     ∷ byteRow 264 0xC3 (limit 63)
     ∷ byteRow 265 0xC4 (attributes 63)
-    ∷ byteRow 266 0xE9 (λ u. u .registers .faults .low)
+    ∷ byteRow 266 0xE9 (λ u. u .registers .low)
     ∷ []
 
 -- as many bytes as a unit has, with those of the rows in their places

@@ -108,9 +108,10 @@ notesIn b = notesOf (has b REQUEST) (has b AWAIT) (has b OWN) (has b HOLD)
 unfoldable pub registersIn : List ℕ → Registers
 registersIn l = record {
   control = record { mr = getD l mrAt 0; sar = getD l sarAt 0; dscr = getD l dscrAt 0 };
-  faults = faultsOf (getD l vtrAt 0) (getD l vsnAt 0) (getD l voffAt 0) (getD l bcsrAt 0) (getD l lowAt 0);
+  faults = faultsOf (getD l vtrAt 0) (getD l vsnAt 0) (getD l voffAt 0) (getD l bcsrAt 0);
   fetched = record { isn = getD l isnAt 0; ioff = getD l ioffAt 0 };
   notes = notesIn (getD l notesAt 0);
+  low = getD l lowAt 0;
 }
 
 unfoldable pub unitIn : List ℕ → Unit
@@ -142,4 +143,4 @@ registerBytes r =
     ∷ notesByte (r .notes) ∷ []
 
 unfoldable pub unitBytes : Unit → List ℕ
-unitBytes u = registerBytes (u .registers) ++ tableBytes (u .table) ++ (u .registers .faults .low ∷ [])
+unitBytes u = registerBytes (u .registers) ++ tableBytes (u .table) ++ (u .registers .low ∷ [])

@@ -121,13 +121,13 @@ pub fn registers_in(bytes: &[u8]) -> Registers
             vsn: bytes[VSN],
             voff: bytes[VOFF],
             bcsr: bytes[BCSR],
-            low: bytes[LOW],
         },
         fetched: Fetched {
             isn: bytes[ISN],
             ioff: bytes[IOFF],
         },
         notes: notes_in(bytes[NOTES]),
+        low: bytes[LOW],
     }
 }
 
@@ -202,5 +202,5 @@ pub fn put_unit(out: &mut [u8], u: Unit)
     let registers = u.registers;
     let table = u.table;
     put_registers(out, registers);
-    put_table(out, table, u.registers.faults.low);
+    put_table(out, table, u.registers.low);
 }

@@ -11,9 +11,9 @@ use Rattle.unit_bytes.proofs.snapshot.put_unit.Statement.{statement}
 use Rattle.unit_bytes.proofs.snapshot.put_unit.Tie as tie
 
 both : (o : List ℕ) (u : Unit)
-    → sets (sets o 0 (registerBytes (u .registers))) tableAt (tableBytes (u .table) ++ (u .registers .faults .low ∷ [])) ≡ sets o 0 (unitBytes u)
+    → sets (sets o 0 (registerBytes (u .registers))) tableAt (tableBytes (u .table) ++ (u .registers .low ∷ [])) ≡ sets o 0 (unitBytes u)
 unfolding unitBytes registerBytes
-both o u = sets-append o 0 (registerBytes (u .registers)) (tableBytes (u .table) ++ (u .registers .faults .low ∷ []))
+both o u = sets-append o 0 (registerBytes (u .registers)) (tableBytes (u .table) ++ (u .registers .low ∷ []))
 
 returns : tie.Need-returns
 returns c =
@@ -22,7 +22,7 @@ returns c =
     let begun = registers .before .before .before in
     let start = begun .before .before .args in
     table .put-table .ensures
-    ∙ ap (λ (l : List ℕ). sets l tableAt (tableBytes (start .u .table) ++ (start .u .registers .faults .low ∷ []))) (registers .put-registers .ensures)
+    ∙ ap (λ (l : List ℕ). sets l tableAt (tableBytes (start .u .table) ++ (start .u .registers .low ∷ []))) (registers .put-registers .ensures)
     ∙ both (start .out .now) (start .u)
 
 pub put-unit-spec : {M : Type 1} → statement M

@@ -19,6 +19,6 @@ registers-in-spec =
     (λ c. search needs)
     (λ c. search needs)
     (λ c. search needs)
-    (λ c. search needs)
     (λ c κs. search needs)
-    (λ c. simp (← c .notes-in .ensures)))
+    (λ c. search needs)
+    (λ c. simp (← c .before .notes-in .ensures)))
