@@ -11,7 +11,7 @@ use Rattle.rules.specs.Bus.{cpu, write, fetch, sevenBits}
 use Rattle.rules.specs.Checks.{found}
 use Rattle.rules.specs.Flags.{has, lacks}
 use Rattle.rules.specs.Masks.{SWW, PRIMARY}
-use Rattle.rules.specs.PowerOn.{faultsOf, blank}
+use Rattle.rules.specs.PowerOn.{Stored, storedOf, blank}
 use Rattle.rules.specs.Refusals.{damaged, outOfRange}
 use Rattle.rules.specs.Replies.{plain, refused}
 use Rattle.rules.specs.Status.{resetBy, quieted, acknowledged, ignored, purposeOf, byPurpose, byStatus}
@@ -31,7 +31,6 @@ use Rattle.rules.specs.declared.Control.{Control}
 use Rattle.rules.specs.declared.Cycle.{Cycle}
 use Rattle.rules.specs.declared.Decision.{Decision}
 use Rattle.rules.specs.declared.Descriptor.{Descriptor}
-use Rattle.rules.specs.declared.Faults.{Faults}
 use Rattle.rules.specs.declared.Fetched.{Fetched}
 use Rattle.rules.specs.declared.Address.{Address}
 use Rattle.rules.specs.declared.Purpose.{Purpose}
@@ -73,9 +72,12 @@ controlBy false false true command c k = record { mr = cond (c .select) 128 0; s
 controlBy false false false true c k = commandControl (commandOf (c .offset)) (c .read) c k
 controlBy false false false false c k = k
 
--- what stands beside the VTR after a cycle that stores it or not, from the registers before: the faults, with no VTR
-abbrev pub companions : (stores : Bool) → Cycle → Registers → Faults
-companions stores c r = cond stores (faultsOf 0 (sevenBits c) (c .offset) (busStatus c)) (withVtr r 0 .faults)
+-- what stands beside the VTR: the faults, with no VTR, and the low byte; after a cycle that stores it or not, from the registers before
+abbrev besideVtr : Registers → Stored
+besideVtr r = record { faults = withVtr r 0 .faults; low = r .low }
+
+abbrev pub companions : (stores : Bool) → Cycle → Registers → Stored
+companions stores c r = cond stores (storedOf 0 (sevenBits c) (c .offset) (busStatus c) (c .low)) (besideVtr r)
 
 -- and ISN and IOFF
 abbrev pub instruction : (stores : Bool) → Cycle → Registers → Fetched
@@ -85,8 +87,7 @@ instruction stores c r = cond stores (record { isn = sevenBits c; ioff = c .offs
 pub record Leaves (r : Registers) (c : Cycle) (x : Decision) (k : Control) (h first start : Bool) : Type 0 where
   pub control : x .registers .control ≡ k
   pub hold : x .registers .notes .hold ≡ h
-  pub faults : withVtr (x .registers) 0 .faults ≡ companions first c r
-  pub low : x .registers .low ≡ cond first (c .low) (r .low)
+  pub faults : besideVtr (x .registers) ≡ companions first c r
   pub fetched : x .registers .fetched ≡ instruction start c r
 
 -- all but what a row records stays in it
@@ -105,20 +106,18 @@ recorded-beside r c e =
 
 -- "No primary flag in VTR": the first row alone stores
 recorded-companions : (r : Registers) (c : Cycle) (e : ℕ)
-    → (withVtr (recorded r c e) 0 .faults ≡ companions (not (eqb e 0) && lacks (r .faults .vtr) PRIMARY) c r)
-    × (recorded r c e .low ≡ cond (not (eqb e 0) && lacks (r .faults .vtr) PRIMARY) (c .low) (r .low))
+    → besideVtr (recorded r c e) ≡ companions (not (eqb e 0) && lacks (r .faults .vtr) PRIMARY) c r
 unfolding recorded firstEntry added raised
 recorded-companions r c e =
     go (eqb e 0) (lacks (r .faults .vtr) PRIMARY) (r .notes .own) (stackWarning c e) (has (r .faults .vtr) SWW)
   where
-    go : (n f o s t : Bool)
-        → (withVtr (rowOf n f o s t r c e) 0 .faults ≡ companions (not n && f) c r) × (rowOf n f o s t r c e .low ≡ cond (not n && f) (c .low) (r .low))
-    go true f o s t = (refl, refl)
-    go false true o s t = (refl, refl)
-    go false false true s t = (refl, refl)
-    go false false false true true = (refl, refl)
-    go false false false true false = (refl, refl)
-    go false false false false t = (refl, refl)
+    go : (n f o s t : Bool) → besideVtr (rowOf n f o s t r c e) ≡ companions (not n && f) c r
+    go true f o s t = refl
+    go false true o s t = refl
+    go false false true s t = refl
+    go false false false true true = refl
+    go false false false true false = refl
+    go false false false false t = refl
 
 noted-instruction : (m : Registers) (stores holds : Bool) (c : Cycle) → noted m stores holds c .fetched ≡ instruction stores c m
 unfolding noted
@@ -141,8 +140,7 @@ module _ (r : Registers) (d : Descriptor) (c : Cycle) where
       record {
         control = m .control;
         hold = ap (λ (h : Bool). h || (fails d c && cpu c)) (m .hold) ∙ or-comm (s .notes .hold) (fails d c && cpu c);
-        faults = recorded-companions s c e .0;
-        low = recorded-companions s c e .1;
+        faults = recorded-companions s c e;
         fetched =
             noted-instruction (recorded s c e) t (fails d c && cpu c) c
             ∙ ap (λ (f : Fetched). cond t (record { isn = sevenBits c; ioff = c .offset }) f) (m .fetched);
@@ -153,27 +151,26 @@ module _ (r : Registers) (d : Descriptor) (c : Cycle) where
       (not b && isTranslated w && (eventful d c && lacks (r .faults .vtr) PRIMARY)) (not b && isTranslated w && storing r c (fails d c))
   unfolding aborted resumed untranslated begun
   memory-leaves true w l f =
-      record { control = refl; hold = sym (ap (λ (t : Bool). not t && r .notes .hold) (f refl)); faults = refl; low = refl; fetched = refl }
+      record { control = refl; hold = sym (ap (λ (t : Bool). not t && r .notes .hold) (f refl)); faults = refl; fetched = refl }
   memory-leaves false way.Translated l f =
       let x : _ = accessed-leaves (begun r (fetch c)) l in
       record {
         control = x .control;
         hold = x .hold ∙ ap (λ (h : Bool). fails d c && cpu c || h) (and-comm (r .notes .hold) (not (fetch c)));
         faults = x .faults;
-        low = x .low;
         fetched = x .fetched;
       }
-  memory-leaves false way.Passed l f = record { control = refl; hold = and-comm (r .notes .hold) (not (fetch c)); faults = refl; low = refl; fetched = refl }
-  memory-leaves false way.Silent l f = record { control = refl; hold = and-comm (r .notes .hold) (not (fetch c)); faults = refl; low = refl; fetched = refl }
+  memory-leaves false way.Passed l f = record { control = refl; hold = and-comm (r .notes .hold) (not (fetch c)); faults = refl; fetched = refl }
+  memory-leaves false way.Silent l f = record { control = refl; hold = and-comm (r .notes .hold) (not (fetch c)); faults = refl; fetched = refl }
 
   acted-leaves : (a : Action) → Leaves r c (acted r a) (actControl a (r .control)) (not (isSoftwareReset (Act a)) && r .notes .hold) false false
   unfolding acted plain restarted
-  acted-leaves SoftwareReset = record { control = refl; hold = refl; faults = refl; low = refl; fetched = refl }
-  acted-leaves ClearVtr = record { control = refl; hold = refl; faults = refl; low = refl; fetched = refl }
-  acted-leaves ClearSww = record { control = refl; hold = refl; faults = refl; low = refl; fetched = refl }
-  acted-leaves ClearFatl = record { control = refl; hold = refl; faults = refl; low = refl; fetched = refl }
-  acted-leaves SetCpui = record { control = refl; hold = refl; faults = refl; low = refl; fetched = refl }
-  acted-leaves SetDmai = record { control = refl; hold = refl; faults = refl; low = refl; fetched = refl }
+  acted-leaves SoftwareReset = record { control = refl; hold = refl; faults = refl; fetched = refl }
+  acted-leaves ClearVtr = record { control = refl; hold = refl; faults = refl; fetched = refl }
+  acted-leaves ClearSww = record { control = refl; hold = refl; faults = refl; fetched = refl }
+  acted-leaves ClearFatl = record { control = refl; hold = refl; faults = refl; fetched = refl }
+  acted-leaves SetCpui = record { control = refl; hold = refl; faults = refl; fetched = refl }
+  acted-leaves SetDmai = record { control = refl; hold = refl; faults = refl; fetched = refl }
 
   keeps-hold : (t : Bool) → r .notes .hold ≡ (not (t && false) && r .notes .hold)
   keeps-hold t = rw (and-false t)
@@ -181,15 +178,15 @@ module _ (r : Registers) (d : Descriptor) (c : Cycle) where
   executed-leaves : (m : Command) (read : Bool)
       → Leaves r c (executed m read r d c) (commandControl m read c (r .control)) (not (not read && isSoftwareReset m) && r .notes .hold) false false
   unfolding executed programmed replied entry refused plain
-  executed-leaves Mr read = record { control = refl; hold = keeps-hold (not read); faults = refl; low = refl; fetched = refl }
-  executed-leaves Sar read = record { control = refl; hold = keeps-hold (not read); faults = refl; low = refl; fetched = refl }
-  executed-leaves Dscr read = record { control = refl; hold = keeps-hold (not read); faults = refl; low = refl; fetched = refl }
-  executed-leaves (Show g) true = record { control = refl; hold = refl; faults = refl; low = refl; fetched = refl }
-  executed-leaves (Show g) false = record { control = refl; hold = refl; faults = refl; low = refl; fetched = refl }
-  executed-leaves (Entry p) read = record { control = refl; hold = keeps-hold (not read); faults = refl; low = refl; fetched = refl }
-  executed-leaves (Act a) true = record { control = refl; hold = refl; faults = refl; low = refl; fetched = refl }
+  executed-leaves Mr read = record { control = refl; hold = keeps-hold (not read); faults = refl; fetched = refl }
+  executed-leaves Sar read = record { control = refl; hold = keeps-hold (not read); faults = refl; fetched = refl }
+  executed-leaves Dscr read = record { control = refl; hold = keeps-hold (not read); faults = refl; fetched = refl }
+  executed-leaves (Show g) true = record { control = refl; hold = refl; faults = refl; fetched = refl }
+  executed-leaves (Show g) false = record { control = refl; hold = refl; faults = refl; fetched = refl }
+  executed-leaves (Entry p) read = record { control = refl; hold = keeps-hold (not read); faults = refl; fetched = refl }
+  executed-leaves (Act a) true = record { control = refl; hold = refl; faults = refl; fetched = refl }
   executed-leaves (Act a) false = acted-leaves a
-  executed-leaves Unlisted read = record { control = refl; hold = keeps-hold (not read); faults = refl; low = refl; fetched = refl }
+  executed-leaves Unlisted read = record { control = refl; hold = keeps-hold (not read); faults = refl; fetched = refl }
 
   -- a CPU violation of a memory cycle
   unfoldable pub violated : Bool
@@ -209,20 +206,19 @@ module _ (r : Registers) (d : Descriptor) (c : Cycle) where
       && r .notes .hold)
       (isMemory p && faultStored) (isMemory p && fetchStored)
   unfolding violated faultStored fetchStored acknowledged quieted ignored plain commanded memory
-  purpose-leaves purpose.Acknowledge true y = record { control = refl; hold = refl; faults = refl; low = refl; fetched = refl }
-  purpose-leaves purpose.Acknowledge false y = record { control = refl; hold = refl; faults = refl; low = refl; fetched = refl }
+  purpose-leaves purpose.Acknowledge true y = record { control = refl; hold = refl; faults = refl; fetched = refl }
+  purpose-leaves purpose.Acknowledge false y = record { control = refl; hold = refl; faults = refl; fetched = refl }
   purpose-leaves purpose.Command x true = executed-leaves (commandOf (c .offset)) (c .read)
-  purpose-leaves purpose.Command x false = record { control = refl; hold = refl; faults = refl; low = refl; fetched = refl }
+  purpose-leaves purpose.Command x false = record { control = refl; hold = refl; faults = refl; fetched = refl }
   purpose-leaves purpose.Memory x y =
       let m : _ = memory-leaves (aborts r c) (wayOf (r .control .mr) c) _ (λ e. and-l (fetch c) _ e) in
       record {
         control = m .control;
         hold = m .hold ∙ ap (λ (t : Bool). violated || not t && r .notes .hold) (sym (or-false (fetch c)));
         faults = m .faults;
-        low = m .low;
         fetched = m .fetched;
       }
-  purpose-leaves purpose.Other x y = record { control = refl; hold = refl; faults = refl; low = refl; fetched = refl }
+  purpose-leaves purpose.Other x y = record { control = refl; hold = refl; faults = refl; fetched = refl }
 
   -- a fetch is a memory cycle
   fetch-memory : (isMemory (purposeOf (c .status)) && fetch c) ≡ fetch c
@@ -245,9 +241,9 @@ module _ (r : Registers) (d : Descriptor) (c : Cycle) where
       (not two && not one && (not reset && (leb 8 (c .status) && leb (c .status) 13)) && faultStored)
       (not two && not one && (not reset && (leb 8 (c .status) && leb (c .status) 13)) && fetchStored)
   unfolding refused plain resetBy restarted byStatus
-  decided-leaves true one reset = record { control = refl; hold = refl; faults = refl; low = refl; fetched = refl }
-  decided-leaves false true reset = record { control = refl; hold = refl; faults = refl; low = refl; fetched = refl }
-  decided-leaves false false true = record { control = refl; hold = refl; faults = refl; low = refl; fetched = refl }
+  decided-leaves true one reset = record { control = refl; hold = refl; faults = refl; fetched = refl }
+  decided-leaves false true reset = record { control = refl; hold = refl; faults = refl; fetched = refl }
+  decided-leaves false false true = record { control = refl; hold = refl; faults = refl; fetched = refl }
   decided-leaves false false false =
       let x : _ = purpose-leaves (purposeOf (c .status)) (cpu c) (cpu c && c .select) in
       rw (← command-status (c .status), ← acknowledge-status (c .status), ← memory-status (c .status), ← software-reset-code (c .offset))
@@ -262,7 +258,6 @@ module _ (r : Registers) (d : Descriptor) (c : Cycle) where
             || isCommand (purposeOf (c .status)) && (cpu c && c .select) && write c && isSoftwareReset (commandOf (c .offset)))
             && r .notes .hold) fetch-memory;
         faults = x .faults;
-        low = x .low;
         fetched = x .fetched;
       })
 

@@ -14,7 +14,7 @@ use Rattle.rules.specs.Codes.{commandOf}
 use Rattle.rules.specs.Commands.{replied, executed}
 use Rattle.rules.specs.Flags.{has, lacks, with, flagIf}
 use Rattle.rules.specs.Masks.{SYS, DIRW, SLV, PRIMARY, TRNS, MSEN}
-use Rattle.rules.specs.PowerOn.{blank, powerOn}
+use Rattle.rules.specs.PowerOn.{Stored, blank, powerOn}
 use Rattle.rules.specs.Recording.{busStatus, eventBy, eventOf}
 use Rattle.rules.specs.Refusals.{damaged, outOfRange}
 use Rattle.rules.specs.Runs.{final}
@@ -23,7 +23,6 @@ use Rattle.rules.specs.Step.{decision, after, place, stepped}
 use Rattle.rules.specs.declared.Answer.{Answer}
 use Rattle.rules.specs.declared.Cycle.{Cycle}
 use Rattle.rules.specs.declared.Descriptor.{Descriptor}
-use Rattle.rules.specs.declared.Faults.{Faults}
 use Rattle.rules.specs.declared.Fetched.{Fetched}
 use Rattle.rules.specs.declared.Unit.{Unit}
 use Rattle.theorems_runs.specs.Answers.{awaited, segmentOf, breaks, translated, violation}
@@ -163,11 +162,11 @@ stored-exactly u c =
     let start : _ = leaves u c .fetched ∙ ap (λ (t : Bool). instruction t c (u .registers)) (start-exactly u c) in
     record {
       vsn =
-          ap (λ (f : Faults). f .vsn) first
-          ∙ part-stored (λ (f : Faults). f .vsn) (storesFault u c) _ _ (c .segment) (λ e. whole u c (fault-translated u c e));
-      voff = ap (λ (f : Faults). f .voff) first ∙ part-stored (λ (f : Faults). f .voff) (storesFault u c) _ _ (c .offset) (λ e. refl);
-      bcsr = ap (λ (f : Faults). f .bcsr) first ∙ part-stored (λ (f : Faults). f .bcsr) (storesFault u c) _ _ (busStatus c) (λ e. refl);
-      low = leaves u c .low ∙ ap (λ (t : Bool). cond t (c .low) (u .registers .low)) (first-exactly u c);
+          ap (λ (f : Stored). f .faults .vsn) first
+          ∙ part-stored (λ (f : Stored). f .faults .vsn) (storesFault u c) _ _ (c .segment) (λ e. whole u c (fault-translated u c e));
+      voff = ap (λ (f : Stored). f .faults .voff) first ∙ part-stored (λ (f : Stored). f .faults .voff) (storesFault u c) _ _ (c .offset) (λ e. refl);
+      bcsr = ap (λ (f : Stored). f .faults .bcsr) first ∙ part-stored (λ (f : Stored). f .faults .bcsr) (storesFault u c) _ _ (busStatus c) (λ e. refl);
+      low = ap (λ (f : Stored). f .low) first ∙ part-stored (λ (f : Stored). f .low) (storesFault u c) _ _ (c .low) (λ e. refl);
       isn =
           ap (λ (f : Fetched). f .isn) start
           ∙ part-stored (λ (f : Fetched). f .isn) (storesFetch u c) _ _ (c .segment) (λ e. whole u c (fetch-translated u c e));
