@@ -36,39 +36,39 @@ static uint8_t call(uint8_t *unit, size_t unit_length, uint8_t *answer, size_t a
 }
 
 /* Cycles one after another from power-on: the kind of each, and a byte of the unit after it. Descriptor 7 begins at byte 38. Each cycle has
- * the number of its row, from 1, for its low byte: the ninth and the twentieth are first entries in the VTR. */
+ * the number of its row, from 0, for its low byte: rows 8, 19 and 26 are first entries in the VTR, and keep it. */
 static const struct row {
     struct cycle c;
     int kind, at, value;
 } rows[] = {
-    {{3, 0, 0x00, 1, 0xC5, false, false, false}, DISTANTARM_COMMAND, DISTANTARM_MR, 0xC5},
-    {{3, 0, 0x01, 2, 7, false, false, false}, DISTANTARM_COMMAND, DISTANTARM_SAR, 7},
-    {{3, 0, 0x0B, 3, 0x12, false, false, false}, DISTANTARM_COMMAND, DISTANTARM_DSCR, 1},
-    {{3, 0, 0x0B, 4, 0x34, false, false, false}, DISTANTARM_COMMAND, DISTANTARM_TABLE + DISTANTARM_DESCRIPTOR_BYTES * 7 + 1, 0x34},
-    {{3, 0, 0x0B, 5, 2, false, false, false}, DISTANTARM_COMMAND, DISTANTARM_TABLE + DISTANTARM_DESCRIPTOR_BYTES * 7 + 2, 2},
-    {{3, 0, 0x0B, 6, 1, false, false, false}, DISTANTARM_COMMAND, 38, 0x12},
-    {{13, 7, 0x01, 7, 0, true, false, false}, DISTANTARM_TRANSLATED, DISTANTARM_ISN, 7},
-    {{13, 7, 0x02, 8, 0, true, false, false}, DISTANTARM_TRANSLATED, DISTANTARM_IOFF, 2},
-    {{8, 7, 0x93, 9, 0, false, true, false}, DISTANTARM_TRANSLATED, DISTANTARM_VTR, 5},
-    {{0, 0, 0, 10, 0, true, false, false}, DISTANTARM_IGNORED, DISTANTARM_VSN, 7},
-    {{0, 0, 0, 11, 0, true, false, false}, DISTANTARM_IGNORED, DISTANTARM_VOFF, 0x93},
-    {{0, 0, 0, 12, 0, true, false, false}, DISTANTARM_IGNORED, DISTANTARM_BCSR, 0x28},
-    {{0, 0, 0, 13, 0, true, false, false}, DISTANTARM_IGNORED, DISTANTARM_NOTES,
+    {{3, 0, 0x00, 0, 0xC5, false, false, false}, DISTANTARM_COMMAND, DISTANTARM_MR, 0xC5},
+    {{3, 0, 0x01, 1, 7, false, false, false}, DISTANTARM_COMMAND, DISTANTARM_SAR, 7},
+    {{3, 0, 0x0B, 2, 0x12, false, false, false}, DISTANTARM_COMMAND, DISTANTARM_DSCR, 1},
+    {{3, 0, 0x0B, 3, 0x34, false, false, false}, DISTANTARM_COMMAND, DISTANTARM_TABLE + DISTANTARM_DESCRIPTOR_BYTES * 7 + 1, 0x34},
+    {{3, 0, 0x0B, 4, 2, false, false, false}, DISTANTARM_COMMAND, DISTANTARM_TABLE + DISTANTARM_DESCRIPTOR_BYTES * 7 + 2, 2},
+    {{3, 0, 0x0B, 5, 1, false, false, false}, DISTANTARM_COMMAND, 38, 0x12},
+    {{13, 7, 0x01, 6, 0, true, false, false}, DISTANTARM_TRANSLATED, DISTANTARM_ISN, 7},
+    {{13, 7, 0x02, 7, 0, true, false, false}, DISTANTARM_TRANSLATED, DISTANTARM_IOFF, 2},
+    {{8, 7, 0x93, 8, 0, false, true, false}, DISTANTARM_TRANSLATED, DISTANTARM_VTR, 5},
+    {{0, 0, 0, 9, 0, true, false, false}, DISTANTARM_IGNORED, DISTANTARM_VSN, 7},
+    {{0, 0, 0, 10, 0, true, false, false}, DISTANTARM_IGNORED, DISTANTARM_VOFF, 0x93},
+    {{0, 0, 0, 11, 0, true, false, false}, DISTANTARM_IGNORED, DISTANTARM_BCSR, 0x28},
+    {{0, 0, 0, 12, 0, true, false, false}, DISTANTARM_IGNORED, DISTANTARM_NOTES,
      DISTANTARM_REQUEST + DISTANTARM_AWAIT + DISTANTARM_OWN + DISTANTARM_HOLD},
-    {{0, 0, 0, 14, 0, true, false, false}, DISTANTARM_IGNORED, DISTANTARM_LOW, 9},
-    {{13, 7, 0x02, 15, 0, true, false, false}, DISTANTARM_ABORTED, DISTANTARM_NOTES, DISTANTARM_REQUEST},
-    {{8, 7, 0x93, 16, 0, false, true, false}, DISTANTARM_TRANSLATED, DISTANTARM_NOTES, DISTANTARM_REQUEST + DISTANTARM_AWAIT + DISTANTARM_HOLD},
-    {{4, 0, 0, 17, 0, true, false, false}, DISTANTARM_ACKNOWLEDGE, DISTANTARM_NOTES, 0},
-    {{3, 0, 0x11, 18, 0, false, false, false}, DISTANTARM_COMMAND, DISTANTARM_VTR, 0},
-    {{3, 0, 0x0A, 19, 0x20, false, false, false}, DISTANTARM_COMMAND, 41, 0x20},
-    {{8, 7, 0x02, 20, 0, false, false, false}, DISTANTARM_TRANSLATED, DISTANTARM_NOTES, DISTANTARM_REQUEST + DISTANTARM_AWAIT + DISTANTARM_OWN},
-    {{3, 0, 0x00, 21, 0x80, false, false, false}, DISTANTARM_COMMAND, DISTANTARM_MR, 0x80},
-    {{8, 7, 0x02, 22, 0, true, false, false}, DISTANTARM_PASSED, DISTANTARM_VTR, 0x20},
-    {{0, 0, 0, 23, 0, true, false, true}, DISTANTARM_RESET, DISTANTARM_VTR, 0},
-    {{0, 0, 0, 24, 0, true, false, true}, DISTANTARM_RESET, DISTANTARM_LOW, 20},
-    {{3, 0, 0x00, 25, 0xE5, false, false, false}, DISTANTARM_COMMAND, DISTANTARM_MR, 0xE5},
-    {{13, 71, 0x03, 26, 0, true, false, false}, DISTANTARM_TRANSLATED, DISTANTARM_ISN, 71},
-    {{8, 71, 0x01, 27, 0, false, false, false}, DISTANTARM_TRANSLATED, DISTANTARM_VSN, 71},
+    {{0, 0, 0, 13, 0, true, false, false}, DISTANTARM_IGNORED, DISTANTARM_LOW, 8},
+    {{13, 7, 0x02, 14, 0, true, false, false}, DISTANTARM_ABORTED, DISTANTARM_NOTES, DISTANTARM_REQUEST},
+    {{8, 7, 0x93, 15, 0, false, true, false}, DISTANTARM_TRANSLATED, DISTANTARM_NOTES, DISTANTARM_REQUEST + DISTANTARM_AWAIT + DISTANTARM_HOLD},
+    {{4, 0, 0, 16, 0, true, false, false}, DISTANTARM_ACKNOWLEDGE, DISTANTARM_NOTES, 0},
+    {{3, 0, 0x11, 17, 0, false, false, false}, DISTANTARM_COMMAND, DISTANTARM_VTR, 0},
+    {{3, 0, 0x0A, 18, 0x20, false, false, false}, DISTANTARM_COMMAND, 41, 0x20},
+    {{8, 7, 0x02, 19, 0, false, false, false}, DISTANTARM_TRANSLATED, DISTANTARM_NOTES, DISTANTARM_REQUEST + DISTANTARM_AWAIT + DISTANTARM_OWN},
+    {{3, 0, 0x00, 20, 0x80, false, false, false}, DISTANTARM_COMMAND, DISTANTARM_MR, 0x80},
+    {{8, 7, 0x02, 21, 0, true, false, false}, DISTANTARM_PASSED, DISTANTARM_VTR, 0x20},
+    {{0, 0, 0, 22, 0, true, false, true}, DISTANTARM_RESET, DISTANTARM_VTR, 0},
+    {{0, 0, 0, 23, 0, true, false, true}, DISTANTARM_RESET, DISTANTARM_LOW, 19},
+    {{3, 0, 0x00, 24, 0xE5, false, false, false}, DISTANTARM_COMMAND, DISTANTARM_MR, 0xE5},
+    {{13, 71, 0x03, 25, 0, true, false, false}, DISTANTARM_TRANSLATED, DISTANTARM_ISN, 71},
+    {{8, 71, 0x01, 26, 0, false, false, false}, DISTANTARM_TRANSLATED, DISTANTARM_VSN, 71},
 };
 
 static void layout(void)

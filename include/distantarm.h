@@ -8,8 +8,9 @@
  * content of a buffer has an answer, and bytes past those named here are left as they were.
  *
  * This is interface 2. Interface 1, whose header had no number, knew no low byte. A caller of it must hand distantarm_cycle one number
- * more, `low` behind `offset` (0 answers as before), and give a unit one byte more, DISTANTARM_LOW behind those that it had (0 in a unit
- * that was stored). No other place has moved. A unit of 266 bytes is now too short, and gets 255.
+ * more, `low` behind `offset`, 0 where there is none: whatever it is, the answers are as before. It must give a unit one byte more,
+ * DISTANTARM_LOW behind those that it had, 0 in a unit that was stored; no other place has moved. And it must be compiled again: its call
+ * is short of a number, and all that tells is that a buffer of 266 bytes, which it may have, gets 255.
  *
  * What is proved is the library's source (crates/distantarm). Nothing checks these declarations against it but the test bench
  * (sh tools/interface). A bool is C's: a conversion to it makes 0 or 1, and no other byte may be passed.

@@ -154,8 +154,8 @@ orphans =
     []
 
 -- Segment 0 up to block %40: a unit by what is stored and its notes, and a read past the limit by its offset and low bytes.
-abbrev pub latch : Stored → Notes → Unit
-latch s n = standing s n (segment 0 0x40 0)
+abbrev pub upTo40 : Stored → Notes → Unit
+upTo40 s n = standing s n (segment 0 0x40 0)
 
 abbrev pub readsPast : (offset low : ℕ) → Cycle
 readsPast o l = cycleWith 8 true true false false 0 o l 0 false
@@ -163,7 +163,7 @@ readsPast o l = cycleWith 8 true true false false 0 o l 0 false
 -- a low byte kept over an older one
 abbrev pub keepsLow : (low : ℕ) → Row
 keepsLow l =
-    row (latch (storedOf 0 0 0x9C 0x28 0xE2) noNote) (readsPast 0x41 l) (translated 0x41 true true) (latch (storedOf 0x04 0 0x41 0x38 l) everyNote)
+    row (upTo40 (storedOf 0 0 0x9C 0x28 0xE2) noNote) (readsPast 0x41 l) (translated 0x41 true true) (upTo40 (storedOf 0x04 0 0x41 0x38 l) everyNote)
 
 -- Ticket 8, "the unit record is to keep it when VOFF is stored, under the same rows. [..] it has the full byte range." A later violation of the
 -- same instruction leaves it, and so does clear VTR, after which the next is a first one again. "Version 1 traces give 0": over an older one.
@@ -173,12 +173,12 @@ lowBytes =
     keepsLow 0x7F ∷
     keepsLow 0x80 ∷
     keepsLow 0xFF ∷
-    rowAfter (latch (storedOf 0 0 0 0 0) noNote) (readsPast 0x41 0x12 ∷ []) (readsPast 0x42 0x34) (translated 0x42 true true)
-    (latch (storedOf 0x04 0 0x41 0x38 0x12) everyNote) ∷
-    rowAfter (latch (storedOf 0 0 0 0 0) noNote) (readsPast 0x41 0x12 ∷ []) (command false 0x11 0) (drivesNothing kind.Command false true)
-    (latch (storedOf 0 0 0x41 0x38 0x12) everyNote) ∷
-    rowAfter (latch (storedOf 0 0 0 0 0) noNote) (readsPast 0x41 0x12 ∷ command false 0x11 0 ∷ []) (readsPast 0x42 0x34)
-    (translated 0x42 true true) (latch (storedOf 0x04 0 0x42 0x38 0x34) everyNote) ∷
+    rowAfter (upTo40 (storedOf 0 0 0 0 0) noNote) (readsPast 0x41 0x12 ∷ []) (readsPast 0x42 0x34) (translated 0x42 true true)
+    (upTo40 (storedOf 0x04 0 0x41 0x38 0x12) everyNote) ∷
+    rowAfter (upTo40 (storedOf 0 0 0 0 0) noNote) (readsPast 0x41 0x12 ∷ []) (command false 0x11 0) (drivesNothing kind.Command false true)
+    (upTo40 (storedOf 0 0 0x41 0x38 0x12) everyNote) ∷
+    rowAfter (upTo40 (storedOf 0 0 0 0 0) noNote) (readsPast 0x41 0x12 ∷ command false 0x11 0 ∷ []) (readsPast 0x42 0x34)
+    (translated 0x42 true true) (upTo40 (storedOf 0x04 0 0x42 0x38 0x34) everyNote) ∷
     []
 
 -- the lengths last: they are the most, and a wrong row before them is told at once

@@ -128,8 +128,8 @@ cycleWith status read normal dma select number offset low b reset = record {
   reset = reset;
 }
 
--- Ticket 8: the low byte of the cycles below. No unit of the rows has it before, so a row in which it is kept shows it, and one in which it
--- isn't too.
+-- Ticket 8: the low byte of the cycles below. No row's unit has it at the start, so a row whose first cycle keeps it shows that, and one whose
+-- cycle doesn't too.
 abbrev pub LOW : ℕ
 LOW = 0xA7
 

@@ -38,8 +38,8 @@ pub struct Notes {
     pub hold: bool,
 }
 
-// Everything that a unit keeps beside its descriptors. `low` is a board's latch: the low byte of the address whose offset byte is VOFF. The chip
-// has no such register, and no command shows it.
+// Everything that a unit keeps beside its descriptors. `low` is the low byte of the address whose offset byte is VOFF, which a latch on the board
+// can have: the chip has no such register, and no command shows it.
 pub struct Registers {
     pub control: Control,
     pub faults: Faults,

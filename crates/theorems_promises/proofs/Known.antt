@@ -15,7 +15,6 @@ use Rattle.text.specs.Listed.{filled, lengthOf}
 use Rattle.trace_reader.specs.declared.Found.{Found}
 use Rattle.trace_reader.specs.declared.Step.the-variants.{Record, No}
 use Rattle.rules.specs.Seen.{segment, translating, cycleWith, cycle, translated}
-use Rattle.rules.specs.declared.Kind.the-variants.{Translated}
 use Rattle.rules.specs.declared.Stepped.{Stepped}
 use Rattle.unit_lent.proofs.step_by_lending.Kinds as step-by-lending-k
 use Rattle.unit_lent.proofs.step_by_lending.Reads as step-by-lending

@@ -1,4 +1,4 @@
--- A board's latch has the low byte that the unit keeps, where VTR is cleared when the trap line is off.
+-- A board's latch has the low byte that the unit keeps, where clear VTR comes when the trap line is off.
 -- Assumes nothing.
 use mathlib.Core.Path.{_≡_, refl, sym, _∙_, ap}
 use mathlib.Core.Bool.{Bool, true, false, not, cond, _&&_, _||_, and-false, true≢false, false≢true}

@@ -192,7 +192,7 @@ module _ (r : Registers) (d : Descriptor) (c : Cycle) where
   unfoldable pub violated : Bool
   violated = not (aborts r c) && isTranslated (wayOf (r .control .mr) c) && fails d c && cpu c
 
-  -- and a memory cycle that stores VSN, VOFF and BCSR, or ISN and IOFF
+  -- and a memory cycle that stores VSN, VOFF, BCSR and the low byte, or ISN and IOFF
   unfoldable pub faultStored : Bool
   faultStored = not (aborts r c) && isTranslated (wayOf (r .control .mr) c) && (eventful d c && lacks (r .faults .vtr) PRIMARY)
 

@@ -79,10 +79,10 @@ descriptorRead c = descriptorCommand c && c .read
 abbrev pub softwareReset : Cycle → Bool
 softwareReset c = selectedCommand c && write c && eqb (c .offset) 0x10
 
--- a selected CPU write with this code, in the ranges of 1; its data byte, its mode and its segment are left open
+-- a selected CPU write with this code, in the ranges of 1; its data byte, its low byte, its mode and its segment are left open
 abbrev pub writes : (code : ℕ) → Cycle → Bool
 writes n c = not (outOfRange c) && selectedCommand c && write c && eqb (c .offset) n
 
--- a CPU write in system mode with select on, by its status, its code, its data byte and the reset line
+-- a CPU write in system mode with select on and low byte 0, by its status, its code, its data byte and the reset line
 abbrev pub written : (status code byte : ℕ) → (reset : Bool) → Cycle
 written status code byte reset = cycleWith status false false false true 0 code 0 byte reset

@@ -1,5 +1,5 @@
--- Ticket 8: "a board can latch it". A latch on the board, which sees the bus and the trap line, and neither VTR nor VOFF; and when it has the
--- low byte that the unit keeps.
+-- Ticket 8: "a board can latch it". A latch on the board, of one unit: it sees the bus and this unit's trap line, before the lines of several are
+-- joined, and neither VTR nor VOFF; and when it has the low byte that the unit keeps.
 -- Assumes nothing.
 use mathlib.Core.Path.{_≡_}
 use mathlib.Core.Bool.{Bool, true, false, cond, not, _&&_}
@@ -19,7 +19,8 @@ pub record Latch : Type 0 where
   pub shut : Bool
   pub byte : ℕ
 
--- The trap line goes on in a cycle: an open latch takes the low byte, and is shut from then on. A cycle that empties the VTR opens it.
+-- The trap line goes on in a cycle: an open latch takes the low byte, and is shut from then on. A cycle that empties the VTR opens it: which that
+-- is can be seen on the bus, since from power-on no unit is damaged.
 abbrev pub latchedBy : (rises wiped : Bool) → (low : ℕ) → Latch → Latch
 latchedBy true wiped low l = record { shut = true; byte = cond (l .shut) (l .byte) low }
 latchedBy false true low l = record { shut = false; byte = l .byte }
@@ -43,11 +44,11 @@ LatchHas by May =
 abbrev pub ClearsLate : Unit → Cycle → Type 0
 ClearsLate u c = (admitted u c && clearVtr c && u .registers .notes .request) ≡ false
 
--- CLAIM: so a board can keep it, in every run from power-on in which VTR is cleared when the trap line is off.
+-- CLAIM: so a board can keep it, in every run from power-on in which clear VTR comes when the trap line is off.
 abbrev pub LatchExact : Type 0
 LatchExact = LatchHas latchedBy ClearsLate
 
--- CLAIM: not where VTR is cleared while the line is on: the next fault stores VOFF, and the line, being on, does not go on.
+-- CLAIM: not where clear VTR comes while the line is on: the next fault stores VOFF, and the line, being on, does not go on.
 abbrev pub ClearsLateNeeded : Type 0
 ClearsLateNeeded = LatchHas latchedBy (λ u c. true ≡ true) → ⊥
 

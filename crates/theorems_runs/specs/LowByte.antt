@@ -40,7 +40,7 @@ LowUnread =
     (u v : Unit) (cs ds : List Cycle) → AlikeUnits u v → Both AlikeCycles cs ds
     → (answers u cs ≡ answers v ds) × Both AlikeUnits (units u cs) (units v ds)
 
--- CLAIM: they do not stay the same: a low byte is kept, and of two runs that differ in no more the units differ.
+-- CLAIM: they need not stay the same: a low byte is kept, and some two runs whose cycles differ in low bytes alone leave different units.
 abbrev pub LowKept : Type 0
 LowKept = ((u : Unit) (cs ds : List Cycle) → Both AlikeCycles cs ds → units u cs ≡ units u ds) → ⊥
 
@@ -63,8 +63,8 @@ unfoldable pub lastStored : (before : WholeAddress) → Unit → List Cycle → 
 lastStored before u [] = before
 lastStored before u (c ∷ cs) = lastStored (cond (storesFault u c) (addressIn c) before) (stepped u c .unit) cs
 
--- CLAIM: after every run from every unit VSN, VOFF and the low byte are those of one cycle, the last that stored VOFF, or all three as they
--- stood.
+-- CLAIM: after every run from every unit VSN, VOFF and the low byte are those of one cycle, the last that stored VOFF, or, where none did, all
+-- three as they stood.
 abbrev pub AddressKept : Type 0
 AddressKept = (u : Unit) (cs : List Cycle) → keptAddress (final u cs) ≡ lastStored (keptAddress u) u cs
 

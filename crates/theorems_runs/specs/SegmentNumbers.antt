@@ -35,7 +35,7 @@ storesFault u c = (cpuViolation u c || warning u c) && lacks (u .registers .faul
 abbrev pub storesFetch : Unit → Cycle → Bool
 storesFetch u c = fetches c && translated u c && not (breaks (segmentOf u c) c) && eqb (u .registers .faults .vtr) 0
 
--- the six registers after a cycle, r, from those of the unit before it: "VSN and ISN keep all seven bits", so the segment as it stands; ticket
+-- the five registers and the low byte after a cycle, r, from those of the unit before it: "VSN and ISN keep all seven bits", so the segment as it stands; ticket
 -- 8: the low byte "when VOFF is stored, under the same rows"
 pub record StoredBy (u : Unit) (c : Cycle) (r : Registers) : Type 0 where
   pub vsn : r .faults .vsn ≡ cond (storesFault u c) (c .segment) (u .registers .faults .vsn)
@@ -45,7 +45,7 @@ pub record StoredBy (u : Unit) (c : Cycle) (r : Registers) : Type 0 where
   pub isn : r .fetched .isn ≡ cond (storesFetch u c) (c .segment) (u .registers .fetched .isn)
   pub ioff : r .fetched .ioff ≡ cond (storesFetch u c) (c .offset) (u .registers .fetched .ioff)
 
--- CLAIM: of every unit and every cycle, the six registers are stored exactly there, and else they stay: in resets, commands, acknowledges,
+-- CLAIM: of every unit and every cycle, the five registers and the low byte are stored exactly there, and else they stay: in resets, commands, acknowledges,
 -- DMA and refused cycles too.
 abbrev pub StoredExactly : Type 0
 StoredExactly = (u : Unit) (c : Cycle) → StoredBy u c (stepped u c .unit .registers)

@@ -153,8 +153,8 @@ pub fn put_descriptor(out: &mut [u8], at: usize, d: Descriptor)
     out[at + ATTRIBUTES] = d.attributes;
 }
 
-// A table's bytes stored at their place, and behind them the low byte.
-fn put_table(out: &mut [u8], table: [Descriptor; Unit::DESCRIPTORS], low: u8)
+// What stands behind the registers and the notes, stored at its place: a table's bytes, and the low byte.
+fn put_behind(out: &mut [u8], table: [Descriptor; Unit::DESCRIPTORS], low: u8)
     requires { ⌜ unitSize ≤ length (now out) ⌝ }
     ensures { λ _. ⌜ now (out .exit) ≡ sets (now (out .entry)) tableAt (tableBytes table ++ (low ∷ [])) ⌝ }
 {
@@ -202,5 +202,5 @@ pub fn put_unit(out: &mut [u8], u: Unit)
     let registers = u.registers;
     let table = u.table;
     put_registers(out, registers);
-    put_table(out, table, u.registers.low);
+    put_behind(out, table, u.registers.low);
 }

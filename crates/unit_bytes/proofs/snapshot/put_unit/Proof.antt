@@ -21,7 +21,7 @@ returns c =
     let registers = table .before .before .before .before in
     let begun = registers .before .before .before in
     let start = begun .before .before .args in
-    table .put-table .ensures
+    table .put-behind .ensures
     ∙ ap (λ (l : List ℕ). sets l tableAt (tableBytes (start .u .table) ++ (start .u .registers .low ∷ []))) (registers .put-registers .ensures)
     ∙ both (start .out .now) (start .u)
 

@@ -1,4 +1,4 @@
--- `unit_bytes::snapshot::put_table` meets its contract: after i turns the bytes of the first i descriptors are stored, and the low byte goes behind
+-- `unit_bytes::snapshot::put_behind` meets its contract: after i turns the bytes of the first i descriptors are stored, and the low byte goes behind
 -- them all. Assumes nothing.
 use mathlib.Core.Path.{_≡_, refl, sym, ap, _∙_}
 use mathlib.Core.List.{List}
@@ -12,8 +12,8 @@ use Rattle.rules.specs.PowerOn.{blank}
 use Rattle.rules.specs.declared.Descriptor.{Descriptor}
 use Rattle.unit_bytes.specs.Snapshot.{tableAt, segments, descriptorAt, lowAt, unitSize, descriptorBytes, tableBytes}
 use Rattle.unit_bytes.proofs.Tables.{descriptor-stored, low-stored}
-use Rattle.unit_bytes.proofs.snapshot.put_table.Statement.{statement}
-use Rattle.unit_bytes.proofs.snapshot.put_table.Tie as tie
+use Rattle.unit_bytes.proofs.snapshot.put_behind.Statement.{statement}
+use Rattle.unit_bytes.proofs.snapshot.put_behind.Tie as tie
 
 abbrev Inv-loop : tie.InvT-loop
 Inv-loop out₀ low table i₀ out i =
@@ -56,8 +56,8 @@ returns c =
     ∙ ap (λ (t : List Descriptor). sets (start .out .now) tableAt (tableBytes t)) (take-all (at .loop .i) (start .t2) (omega arith)))
     ∙ low-stored (start .out .now) (start .t2) (start .low) (at .loop .inv .2)
 
-pub put-table-spec : {M : Type 1} → statement M
-put-table-spec =
+pub put-behind-spec : {M : Type 1} → statement M
+put-behind-spec =
     tie.close
     (tie.spec
     Inv-loop
