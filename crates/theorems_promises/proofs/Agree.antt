@@ -90,7 +90,7 @@ distantarm-power-on-agrees κs κ₀ a u x e f room p q = (
 )
 
 -- a cycle as `distantarm_cycle` takes it
-abbrev handed : Cycle → ℕ × (Bool × (Bool × (Bool × (Bool × (ℕ × (ℕ × (ℕ × (ℕ × (Bool × Unit {0})))))))))
+abbrev pub handed : Cycle → ℕ × (Bool × (Bool × (Bool × (Bool × (ℕ × (ℕ × (ℕ × (ℕ × (Bool × Unit {0})))))))))
 handed c = (c .status, (c .read, (c .normal, (c .dma, (c .select, (c .segment, (c .offset, (c .low, (c .byte, (c .reset, tt))))))))))
 
 -- a cycle of the unit in the bytes, where there is room and the notes are a unit's

@@ -15,6 +15,7 @@ use Rattle.text.specs.Listed.{filled, lengthOf}
 use Rattle.trace_reader.specs.declared.Found.{Found}
 use Rattle.trace_reader.specs.declared.Step.the-variants.{Record, No}
 use Rattle.rules.specs.Seen.{segment, translating, cycleWith, cycle, translated}
+use Rattle.rules.specs.declared.Cycle.{Cycle}
 use Rattle.rules.specs.declared.Stepped.{Stepped}
 use Rattle.unit_lent.proofs.step_by_lending.Kinds as step-by-lending-k
 use Rattle.unit_lent.proofs.step_by_lending.Reads as step-by-lending
@@ -29,6 +30,7 @@ use Rattle.distantarm.proofs.distantarm_cycle.Kinds as distantarm-cycle-k
 use Rattle.distantarm.proofs.distantarm_cycle.Reads as distantarm-cycle
 use Rattle.distantarm.proofs.distantarm_list.Kinds as distantarm-list-k
 use Rattle.distantarm.proofs.distantarm_list.Reads as distantarm-list
+use Rattle.theorems_promises.proofs.Agree.{handed}
 use Rattle.theorems_promises.proofs.Computed.{allComputed}
 
 -- a lent buffer, wherever it stands
@@ -43,33 +45,30 @@ behind a low = 35 ∷ 17 ∷ 32 ∷ a ∷ replicate 252 0 ++ (low ∷ [])
 abbrev turnedOn : (attributes : ℕ) → List ℕ
 turnedOn a = 192 ∷ replicate 9 0 ++ behind a 99
 
--- a system data read and a normal data write in segment 0, at offset %15 and low byte 77, as `distantarm_cycle` takes them
-abbrev dataCycle : (read normal : Bool) → ℕ × (Bool × (Bool × (Bool × (Bool × (ℕ × (ℕ × (ℕ × (ℕ × (Bool × Unit {0})))))))))
-dataCycle read normal = (8, (read, (normal, (false, (false, (0, (21, (77, (0, (false, tt))))))))))
+-- a system data read and a normal data write in segment 0, at offset %15 and low byte 77
+abbrev dataRead : Cycle
+dataRead = cycleWith 8 true false false false 0 21 77 0 false
 
-abbrev dataRead : ℕ × (Bool × (Bool × (Bool × (Bool × (ℕ × (ℕ × (ℕ × (ℕ × (Bool × Unit {0})))))))))
-dataRead = dataCycle true false
-
-abbrev dataWrite : ℕ × (Bool × (Bool × (Bool × (Bool × (ℕ × (ℕ × (ℕ × (ℕ × (Bool × Unit {0})))))))))
-dataWrite = dataCycle false true
+abbrev dataWrite : Cycle
+dataWrite = cycleWith 8 false true false false 0 21 77 0 false
 
 -- record 5: a system data read. The seventh byte of the lent answer is left
 pub distantarm-cycle-known : (κs : Lfts 2) (p q : ℕ × ℕ) (g h x : ℕ) (e : AtExit (endedOf 2 distantarm-cycle-k.ps distantarm-cycle-k.r) κs)
-    → distantarm-cycle.Learnt κs (lent p g (turnedOn 1), (lent q h (replicate 7 9), dataRead)) x e
+    → distantarm-cycle.Learnt κs (lent p g (turnedOn 1), (lent q h (replicate 7 9), handed dataRead)) x e
     → (x ≡ 0) × (now (e .0) ≡ turnedOn 129) × (now (e .1 .0) ≡ 84 ∷ 0 ∷ 35 ∷ 38 ∷ 1 ∷ 0 ∷ 9 ∷ [])
 unfolding allComputed
 distantarm-cycle-known κs p q g h x e l = (l .says, l .leaves, l .shows)
 
 -- record 6: a normal data write, which RD forbids. VTR, VOFF, BCSR and the notes are stored, and the low byte over the older one
 pub distantarm-cycle-stores : (κs : Lfts 2) (p q : ℕ × ℕ) (g h x : ℕ) (e : AtExit (endedOf 2 distantarm-cycle-k.ps distantarm-cycle-k.r) κs)
-    → distantarm-cycle.Learnt κs (lent p g (turnedOn 129), (lent q h (replicate 6 9), dataWrite)) x e
+    → distantarm-cycle.Learnt κs (lent p g (turnedOn 129), (lent q h (replicate 6 9), handed dataWrite)) x e
     → (x ≡ 0) × (now (e .0) ≡ 192 ∷ 0 ∷ 0 ∷ 1 ∷ 0 ∷ 21 ∷ 40 ∷ 0 ∷ 0 ∷ 15 ∷ behind 129 77) × (now (e .1 .0) ≡ 84 ∷ 0 ∷ 35 ∷ 38 ∷ 7 ∷ 0 ∷ [])
 unfolding allComputed
 distantarm-cycle-stores κs p q g h x e l = (l .says, l .leaves, l .shows)
 
 -- notes that no unit has: refusal 2, and every byte of the unit is left
 pub distantarm-cycle-strange : (κs : Lfts 2) (p q : ℕ × ℕ) (g h x : ℕ) (e : AtExit (endedOf 2 distantarm-cycle-k.ps distantarm-cycle-k.r) κs)
-    → distantarm-cycle.Learnt κs (lent p g (replicate 9 0 ++ (16 ∷ replicate 257 0)), (lent q h (replicate 6 9), dataRead)) x e
+    → distantarm-cycle.Learnt κs (lent p g (replicate 9 0 ++ (16 ∷ replicate 257 0)), (lent q h (replicate 6 9), handed dataRead)) x e
     → (x ≡ 2) × (now (e .0) ≡ replicate 9 0 ++ (16 ∷ replicate 257 0)) × (now (e .1 .0) ≡ 88 ∷ 2 ∷ 0 ∷ 0 ∷ 0 ∷ 0 ∷ [])
 unfolding allComputed
 distantarm-cycle-strange κs p q g h x e l = (l .says, l .leaves, l .shows)
@@ -77,9 +76,9 @@ distantarm-cycle-strange κs p q g h x e l = (l .says, l .leaves, l .shows)
 -- the least room, and a byte less of either
 pub distantarm-cycle-room : (κs : Lfts 2) (p q : ℕ × ℕ) (g h x y z : ℕ)
     (d e f : AtExit (endedOf 2 distantarm-cycle-k.ps distantarm-cycle-k.r) κs)
-    → distantarm-cycle.Learnt κs (lent p g (replicate 267 0), (lent q h (replicate 6 9), dataRead)) x d
-    → distantarm-cycle.Learnt κs (lent p g (replicate 266 0), (lent q h (replicate 6 9), dataRead)) y e
-    → distantarm-cycle.Learnt κs (lent p g (replicate 267 0), (lent q h (replicate 5 9), dataRead)) z f
+    → distantarm-cycle.Learnt κs (lent p g (replicate 267 0), (lent q h (replicate 6 9), handed dataRead)) x d
+    → distantarm-cycle.Learnt κs (lent p g (replicate 266 0), (lent q h (replicate 6 9), handed dataRead)) y e
+    → distantarm-cycle.Learnt κs (lent p g (replicate 267 0), (lent q h (replicate 5 9), handed dataRead)) z f
     → (x ≡ 0) × ((y ≡ 255) × (now (e .0) ≡ replicate 266 0) × (now (e .1 .0) ≡ replicate 6 9))
     × ((z ≡ 255) × (now (f .0) ≡ replicate 267 0) × (now (f .1 .0) ≡ replicate 5 9))
 unfolding allComputed
