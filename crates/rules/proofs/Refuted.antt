@@ -7,15 +7,15 @@ use Prim.Native.Nat.{ℕ}
 use lib.Dec.{T}
 use Rattle.rules.specs.Computed.{computed}
 use Rattle.rules.specs.Recording.{firstEntry}
-use Rattle.rules.specs.PowerOn.{storedOf, notesOf, unitOf}
-use Rattle.rules.specs.Seen.{Row, row, rowAfter, holds, segment, noNote, warned, everyNote, unitHolding, standing, translating}
+use Rattle.rules.specs.PowerOn.{storedOf, notesOf}
+use Rattle.rules.specs.Registers.{withLow}
+use Rattle.rules.specs.Seen.{Row, row, rowAfter, holds, segment, noNote, warned, everyNote, standing, translating}
 use Rattle.rules.specs.Seen.{LOW, cycle, writes, command, resets, drivesBlock, drivesByte, drivesNothing, translated, refusal}
 use Rattle.rules.specs.Rows.{writesTo, fetchesFrom, idleHalf, faultedHalf, fetchedHalf}
 use Rattle.rules.specs.CycleRows.{numbered, idle}
 use Rattle.rules.specs.MemoryRows.{unitAs, unitIn, fetchedAt, fetchAt, readAt, writeAt, requested}
 use Rattle.rules.specs.CodeRows.{unitBy, unitAt, tableWith, own}
 use Rattle.rules.specs.declared.Answer.{Answer}
-use Rattle.rules.specs.declared.Notes.{Notes}
 use Rattle.rules.specs.declared.Unit.{Unit}
 use Rattle.rules.specs.declared.Kind.the-variants as kind
 
@@ -67,12 +67,9 @@ wrongTurns =
     (translated 0x2315 true true) (unitIn 0x04 everyNote 0) ∷
     []
 
--- the units of `MemoryRows` and `CodeRows` with the low byte of the rows' cycles, and with none
-abbrev lowIn : (vtr isn ioff : ℕ) → Notes → (attributes : ℕ) → Unit
-lowIn vtr isn ioff n a = unitHolding 0xC0 0 0 (storedOf vtr 0x6A 0x9C 0x38 LOW) isn ioff n 5 (segment 0x2300 0x40 a)
-
-abbrev lowCleared : (mr dscr : ℕ) → Notes → Unit
-lowCleared mr dscr n = unitOf (tableWith own 0) mr 0x15 dscr (storedOf 0 0x6A 0x9C 0x38 0) 0x53 0x71 n
+-- a row, and the low byte that a wrong reading would leave in it
+abbrev turnedLow : Row → (low : ℕ) → Turned
+turnedLow r low = turned r (r .answer) (record { table = r .left .table; registers = withLow (r .left .registers) low })
 
 -- Open points of docs/DECISIONS.md, by their numbers
 abbrev pub turnedReadings : List Turned
@@ -116,22 +113,17 @@ turnedReadings =
     turned (row (unitAt 1) (command true 0x03 0) (drivesByte kind.Command 0x6A true) (unitAt 1)) (drivesByte kind.Command 0x2A true) (unitAt 1) ∷
     turned (row (unitAt 1) (command true 0x06 0) (drivesByte kind.Command 0x53 true) (unitAt 1)) (drivesByte kind.Command 0x13 true) (unitAt 1) ∷
     -- 51: a later row stores the low byte: of the same instruction, FATL, SWW; or a fetch does, with ISN and IOFF
-    turned (row (unitIn 0x01 everyNote 0) (readAt 0x41) (translated 0x2341 true true) (unitIn 0x05 everyNote 0))
-    (translated 0x2341 true true) (lowIn 0x05 0x53 0x71 everyNote 0) ∷
-    turned (row (unitIn 0x01 noNote 0) (readAt 0x41) (translated 0x2341 true true) (unitIn 0x81 (notesOf true true false true) 0))
-    (translated 0x2341 true true) (lowIn 0x81 0x53 0x71 (notesOf true true false true) 0) ∷
-    turned (row (unitIn 0x01 noNote 0x20) (writeAt false 0x9 0x40) (translated 0x2340 false true) (unitIn 0x41 (notesOf true true false false) 0xE0))
-    (translated 0x2340 false true) (lowIn 0x41 0x53 0x71 (notesOf true true false false) 0xE0) ∷
-    turned (row (unitIn 0 noNote 0) (fetchAt 0x15) (translated 0x2315 false false) (fetchedAt 0xC0 5 0x15 noNote 0x80))
-    (translated 0x2315 false false) (lowIn 0 5 0x15 noNote 0x80) ∷
+    turnedLow (row (unitIn 0x01 everyNote 0) (readAt 0x41) (translated 0x2341 true true) (unitIn 0x05 everyNote 0)) LOW ∷
+    turnedLow (row (unitIn 0x01 noNote 0) (readAt 0x41) (translated 0x2341 true true) (unitIn 0x81 (notesOf true true false true) 0)) LOW ∷
+    turnedLow (row (unitIn 0x01 noNote 0x20) (writeAt false 0x9 0x40) (translated 0x2340 false true)
+    (unitIn 0x41 (notesOf true true false false) 0xE0)) LOW ∷
+    turnedLow (row (unitIn 0 noNote 0) (fetchAt 0x15) (translated 0x2315 false false) (fetchedAt 0xC0 5 0x15 noNote 0x80)) LOW ∷
     -- and a DMA violation does
-    turned (row (unitIn 0 noNote 0) (cycle true true true 8 5 0x41) (translated 0x2341 true false) (unitIn 0 noNote 0))
-    (translated 0x2341 true false) (lowIn 0 0x53 0x71 noNote 0) ∷
+    turnedLow (row (unitIn 0 noNote 0) (cycle true true true 8 5 0x41) (translated 0x2341 true false) (unitIn 0 noNote 0)) LOW ∷
     -- 52: clear VTR clears the low byte, or a reset does
-    turned (row (unitAt 1) (command false 0x11 0) (drivesNothing kind.Command false true) (unitBy 0x5A 0x15 1 0 everyNote (tableWith own 0)))
-    (drivesNothing kind.Command false true) (lowCleared 0x5A 1 everyNote) ∷
-    turned (row (unitAt 1) resets (drivesNothing kind.Reset false false) (unitBy 0 0x15 0 0 noNote (tableWith own 0)))
-    (drivesNothing kind.Reset false false) (lowCleared 0 0 noNote) ∷
+    turnedLow (row (unitAt 1) (command false 0x11 0) (drivesNothing kind.Command false true)
+    (unitBy 0x5A 0x15 1 0 everyNote (tableWith own 0))) 0 ∷
+    turnedLow (row (unitAt 1) resets (drivesNothing kind.Reset false false) (unitBy 0 0x15 0 0 noNote (tableWith own 0))) 0 ∷
     -- 53: a read of VOFF shows it
     turned (row (unitAt 1) (command true 0x04 0) (drivesByte kind.Command 0x9C true) (unitAt 1)) (drivesByte kind.Command 0xE2 true) (unitAt 1) ∷
     []

@@ -22,3 +22,7 @@ withVtr r vtr = record {
 -- the notes
 abbrev pub withNotes : Registers → Notes → Registers
 withNotes r n = record { control = r .control; faults = r .faults; fetched = r .fetched; notes = n; low = r .low }
+
+-- ticket 8's low byte
+abbrev pub withLow : Registers → (low : ℕ) → Registers
+withLow r low = record { control = r .control; faults = r .faults; fetched = r .fetched; notes = r .notes; low = low }

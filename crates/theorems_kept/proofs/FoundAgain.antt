@@ -21,7 +21,7 @@ use Rattle.unit_stores.specs.Word.{wordAt}
 use Rattle.unit_bytes.specs.Snapshot.{descriptorSize, segments, descriptorAt, lowAt, unitSize, LAST_NOTES}
 use Rattle.unit_bytes.specs.Snapshot.{descriptorIn, tableIn, notesIn, registersIn, unitIn}
 use Rattle.unit_bytes.specs.Snapshot.{descriptorBytes, tableBytes, notesByte, registerBytes, unitBytes}
-use Rattle.unit_bytes.proofs.Tables.{table-length}
+use Rattle.unit_bytes.proofs.Tables.{table-of}
 use Rattle.unit_bytes.specs.Cycled.{strange}
 use Rattle.theorems_kept.specs.Kept.{FoundAgain}
 
@@ -71,8 +71,7 @@ module _ (r : Registers) (t : List Descriptor) (rest : List ℕ) where
   low-found : (low : ℕ) → length t ≡ segments → getD (registerBytes r ++ tableBytes t ++ (low ∷ rest)) lowAt 0 ≡ low
   unfolding registerBytes
   low-found low size =
-      let first : length (tableBytes t) ≡ descriptorSize * segments = table-length t ∙ ap (λ (n : ℕ). descriptorSize * n) size in
-      ap (λ (k : ℕ). getD (tableBytes t ++ (low ∷ rest)) (k + 0) 0) (sym first) ∙ getD-append-add (tableBytes t) (low ∷ rest) 0 0
+      ap (λ (k : ℕ). getD (tableBytes t ++ (low ∷ rest)) (k + 0) 0) (sym (table-of t segments size)) ∙ getD-append-add (tableBytes t) (low ∷ rest) 0 0
 
   registers-found : length t ≡ segments → registersIn (registerBytes r ++ tableBytes t ++ (r .low ∷ rest)) ≡ r
   unfolding registersIn registerBytes
@@ -92,7 +91,7 @@ module _ (r : Registers) (t : List Descriptor) (rest : List ℕ) where
 pub unit-length : (u : Unit) → length (u .table) ≡ segments → length (unitBytes u) ≡ unitSize
 unfolding unitBytes registerBytes
 unit-length u size =
-    let table : length (tableBytes (u .table)) ≡ descriptorSize * length (u .table) = table-length (u .table) in
+    let table : length (tableBytes (u .table)) ≡ descriptorSize * segments = table-of (u .table) segments size in
     let behind : length (tableBytes (u .table) ++ (u .registers .low ∷ [])) ≡ length (tableBytes (u .table)) + 1 =
     length-append (tableBytes (u .table)) (u .registers .low ∷ []) in
     omega arith

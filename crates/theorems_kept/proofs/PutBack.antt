@@ -15,7 +15,7 @@ use Rattle.unit_stores.specs.Word.{wordAt}
 use Rattle.unit_bytes.specs.Snapshot.{notesAt, tableAt, descriptorSize, segments, descriptorAt, lowAt, LAST_NOTES}
 use Rattle.unit_bytes.specs.Snapshot.{descriptorIn, tableIn, notesIn, registersIn, unitIn}
 use Rattle.unit_bytes.specs.Snapshot.{descriptorBytes, tableBytes, notesByte, registerBytes, unitBytes}
-use Rattle.unit_bytes.proofs.Tables.{table-more, table-length, low-stored}
+use Rattle.unit_bytes.proofs.Tables.{table-more, table-of, low-stored}
 use Rattle.theorems_kept.specs.Kept.{Bytes}
 
 -- ---- the notes
@@ -45,7 +45,7 @@ module _ (l : List ℕ) (bytes : Bytes l) where
   table-back (suc n) =
       let first : List ℕ = tableBytes (tableIn l n) in
       let d : Descriptor = descriptorIn l (descriptorAt n) in
-      let long : length first ≡ descriptorSize * n = table-length (tableIn l n) ∙ ap (λ (k : ℕ). descriptorSize * k) (table-long n) in
+      let long : length first ≡ descriptorSize * n = table-of (tableIn l n) n (table-long n) in
       ap (sets l tableAt) (table-more (tableIn l n) d)
       ∙ sym (sets-append l tableAt first (descriptorBytes d))
       ∙ ap (λ (m : List ℕ). sets m (tableAt + length first) (descriptorBytes d)) (table-back n)

@@ -55,6 +55,13 @@ done m u c = record {
   answer = decides m false u c .answer;
 }
 
+-- what is refused neither by 2 nor by 1
+pub admitted-sound : (u : Unit) (c : Cycle) → admitted u c ≡ true → damaged (u .registers) ≡ false
+admitted-sound u c a = not-true _ (and-l (not (damaged (u .registers))) _ a)
+
+pub admitted-inside : (u : Unit) (c : Cycle) → admitted u c ≡ true → outOfRange c ≡ false
+admitted-inside u c a = not-true _ (and-r (not (damaged (u .registers))) _ a)
+
 -- a selected command that is refused neither by 2 nor by 1 works at SAR, and decides what its code stands for
 module _ (u : Unit) (c : Cycle) (a : admitted u c ≡ true) (s : selectedCommand c ≡ true) where
   pub command-place : place u c ≡ u .registers .control .sar % 64
@@ -65,12 +72,16 @@ module _ (u : Unit) (c : Cycle) (a : admitted u c ≡ true) (s : selectedCommand
   unfolding decision decided byStatus purposeOf commanded
   command-decided =
       let r : (not (c .reset) && eqb (c .status) 3) ≡ true = and-l (not (c .reset) && eqb (c .status) 3) _ s in
-      let sound : damaged (u .registers) ≡ false = not-true _ (and-l (not (damaged (u .registers))) _ a) in
-      let inside : outOfRange c ≡ false = not-true _ (and-r (not (damaged (u .registers))) _ a) in
       let running : c .reset ≡ false = not-true _ (and-l (not (c .reset)) _ r) in
       let command : c .status ≡ 3 = eqb-true _ _ (and-r (not (c .reset)) _ r) in
       let selected : (cpu c && c .select) ≡ true = and-r (not (c .reset) && eqb (c .status) 3) _ s in
-      rw (command-place, sound, inside, running, command, selected)
+      rw (command-place, admitted-sound u c a, admitted-inside u c a, running, command, selected)
+
+  -- the same of a code, read or written
+  pub code-decided : (n : ℕ) (read : Bool) → c .read ≡ read → eqb (c .offset) n ≡ true → decision u c ≡ decides (commandOf n) read u c
+  code-decided n read way code =
+      command-decided ∙ ap (λ (k : ℕ). decides (commandOf k) (c .read) u c) (eqb-true _ _ code)
+      ∙ ap (λ (t : Bool). decides (commandOf n) t u c) way
 
 abbrev pub left : Stepped → Unit
 left s = s .unit

@@ -5,7 +5,7 @@ use mathlib.Core.Bool.{Bool, true, false, not, cond, _&&_, _||_, and-false, true
 use mathlib.Core.List.{List, [], _∷_}
 use Prim.Native.Nat.{ℕ, _-_}
 use lib.Dec.{eqb}
-use borrow.Author.Tests.{eqb-true, not-true}
+use borrow.Author.Tests.{not-true}
 use Rattle.rules.specs.Bus.{write}
 use Rattle.rules.specs.Codes.{commandOf}
 use Rattle.rules.specs.Commands.{restarted, acted, executed}
@@ -14,7 +14,6 @@ use Rattle.rules.specs.Masks.{PRIMARY}
 use Rattle.rules.specs.Memory.{resumed, begun, noted}
 use Rattle.rules.specs.PowerOn.{powerOn}
 use Rattle.rules.specs.Recording.{firstEntry, added, raised}
-use Rattle.rules.specs.Refusals.{damaged, outOfRange}
 use Rattle.rules.specs.Registers.{withVtr}
 use Rattle.rules.specs.Replies.{plain}
 use Rattle.rules.specs.Runs.{final}
@@ -31,7 +30,7 @@ use Rattle.theorems_runs.specs.Refusal.{admitted}
 use Rattle.theorems_runs.specs.Sequences.{Along}
 use Rattle.theorems_runs.proofs.Bits.{lacks-or, lacks-and, lacks-small}
 use Rattle.theorems_runs.proofs.Computed.{computed}
-use Rattle.theorems_runs.proofs.Effects.{decides, command-decided}
+use Rattle.theorems_runs.proofs.Effects.{decides, admitted-sound, admitted-inside, code-decided}
 use Rattle.theorems_runs.proofs.Tests.{and-l, and-r}
 use Rattle.theorems_runs.proofs.Trap.{trap-shows}
 use Rattle.theorems_runs.proofs.Ways.{Became, stayed, controls, empties, clears, restarts, quiets, resumes, begins}
@@ -131,16 +130,11 @@ module _ (u : Unit) (c : Cycle) (a : admitted u c ≡ true) where
   acts : (n : ℕ) → (selectedCommand c && write c && eqb (c .offset) n) ≡ true → decision u c ≡ decides (commandOf n) false u c
   acts n e =
       let s : (selectedCommand c && write c) ≡ true = and-l (selectedCommand c && write c) _ e in
-      let written : c .read ≡ false = not-true _ (and-r (selectedCommand c) _ s) in
-      let code : c .offset ≡ n = eqb-true _ _ (and-r (selectedCommand c && write c) _ e) in
-      rw (command-decided u c a (and-l (selectedCommand c) _ s), written, code)
+      code-decided u c a (and-l (selectedCommand c) _ s) n false (not-true _ (and-r (selectedCommand c) _ s)) (and-r (selectedCommand c && write c) _ e)
 
   starts-anew : c .reset ≡ true → Wiped c (u .registers) (decision u c .registers)
   unfolding decision decided resetBy plain
-  starts-anew e =
-      let sound : damaged (u .registers) ≡ false = not-true _ (and-l (not (damaged (u .registers))) _ a) in
-      let inside : outOfRange c ≡ false = not-true _ (and-r (not (damaged (u .registers))) _ a) in
-      rw (sound, inside, e) (restarted-to _)
+  starts-anew e = rw (admitted-sound u c a, admitted-inside u c a, e) (restarted-to _)
 
   wiped : (c .reset || softwareReset c || clearVtr c) ≡ true → Wiped c (u .registers) (decision u c .registers)
   unfolding commandOf executed acted plain

@@ -14,7 +14,7 @@ use Rattle.rules.specs.Checks.{rightsOf, outOfLength, found}
 use Rattle.rules.specs.Flags.{has, lacks, with, flagIf}
 use Rattle.rules.specs.Masks.{SLV, DIRW, PWW, SWW, FATL, PRIMARY}
 use Rattle.rules.specs.PowerOn.{storedOf, notesOf, unitOf, blank, powerOn}
-use Rattle.rules.specs.Refusals.{damaged, outOfRange}
+use Rattle.rules.specs.Refusals.{outOfRange}
 use Rattle.rules.specs.Seen.{segment, cycle}
 use Rattle.rules.specs.Runs.{final}
 use Rattle.rules.specs.Status.{quieted, purposeOf, byPurpose, byStatus}
@@ -38,6 +38,7 @@ use Rattle.theorems_runs.specs.Sequences.{_⇒_}
 use Rattle.theorems_runs.proofs.Answers.{fails, breaks-exactly, memory-place}
 use Rattle.theorems_runs.proofs.Bits.{or-if, or-none, lacks-or, lacks-small}
 use Rattle.theorems_runs.proofs.Computed.{computed}
+use Rattle.theorems_runs.proofs.Effects.{admitted-sound, admitted-inside}
 use Rattle.theorems_runs.proofs.Looks.{conditions-way}
 use Rattle.theorems_runs.proofs.Purposes.{isMemory, memory-status}
 use Rattle.theorems_runs.proofs.Runs.{always}
@@ -134,8 +135,8 @@ translated-decision u c a m w t =
     let d : Descriptor = getD (u .table) (place u c) blank in
     let wayHere : Way = wayOf (r .control .mr) c in
     let l : Address = addressOf wayHere (d .base) c in
-    ap (λ (t : Bool). decidedBy t (outOfRange c) (c .reset) r d c) (not-true (damaged r) (and-l (not (damaged r)) _ a))
-    ∙ ap (λ (t : Bool). decidedBy false t (c .reset) r d c) (not-true (outOfRange c) (and-r (not (damaged r)) _ a))
+    ap (λ (t : Bool). decidedBy t (outOfRange c) (c .reset) r d c) (admitted-sound u c a)
+    ∙ ap (λ (t : Bool). decidedBy false t (c .reset) r d c) (admitted-inside u c a)
     ∙ ap (λ (t : Bool). decidedBy false false t r d c) (not-true (c .reset) (and-l (not (c .reset)) _ m))
     ∙ ap (λ (p : Purpose). byPurpose p (cpu c) (cpu c && c .select) r d c)
     (to-memory (purposeOf (c .status)) (memory-status (c .status) ∙ and-r (not (c .reset)) _ m))

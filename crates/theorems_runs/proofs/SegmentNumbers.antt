@@ -7,7 +7,7 @@ use Prim.Native.Nat.{ℕ, _≤_}
 use native.Mathlib.Omega.{arith}
 use lib.Dec.{eqb, leb, ltb}
 use lib.ListN.{getD}
-use borrow.Author.Tests.{eqb-true, ltb-false, not-true}
+use borrow.Author.Tests.{ltb-false}
 use Rattle.rules.specs.Bus.{cpu, write, fetch, sevenBits}
 use Rattle.rules.specs.Checks.{rightsOf, outOfLength, warnsBy, warns}
 use Rattle.rules.specs.Codes.{commandOf}
@@ -16,12 +16,13 @@ use Rattle.rules.specs.Flags.{has, lacks, with, flagIf}
 use Rattle.rules.specs.Masks.{SYS, DIRW, SLV, PRIMARY, TRNS, MSEN}
 use Rattle.rules.specs.PowerOn.{Stored, blank, powerOn}
 use Rattle.rules.specs.Recording.{busStatus, eventBy, eventOf}
-use Rattle.rules.specs.Refusals.{damaged, outOfRange}
+use Rattle.rules.specs.Refusals.{outOfRange}
 use Rattle.rules.specs.Runs.{final}
 use Rattle.rules.specs.Seen.{segment, cycle, command}
 use Rattle.rules.specs.Step.{decision, after, place, stepped}
 use Rattle.rules.specs.declared.Answer.{Answer}
 use Rattle.rules.specs.declared.Cycle.{Cycle}
+use Rattle.rules.specs.declared.Decision.{Decision}
 use Rattle.rules.specs.declared.Descriptor.{Descriptor}
 use Rattle.rules.specs.declared.Fetched.{Fetched}
 use Rattle.rules.specs.declared.Unit.{Unit}
@@ -35,7 +36,7 @@ use Rattle.theorems_runs.specs.Refusal.{admitted}
 use Rattle.theorems_runs.specs.Sequences.{Along}
 use Rattle.theorems_runs.proofs.Answers.{fails, breaks-exactly, memory-place, where-true}
 use Rattle.theorems_runs.proofs.Computed.{computed}
-use Rattle.theorems_runs.proofs.Effects.{decides, command-decided}
+use Rattle.theorems_runs.proofs.Effects.{decides, admitted-inside, code-decided}
 use Rattle.theorems_runs.proofs.Examples.{unitOfThree}
 use Rattle.theorems_runs.proofs.Looks.{conditions-way}
 use Rattle.theorems_runs.proofs.Registers.{companions, instruction, eventful, faultStored, fetchStored, leaves}
@@ -137,9 +138,7 @@ module _ (u : Unit) (c : Cycle) where
   unfolding outOfRange
   whole e =
       let m : Bool = admitted u c && memoryCycle c in
-      let inside : outOfRange c ≡ false =
-      not-true (outOfRange c)
-      (and-r (not (damaged (u .registers))) _ (and-l (admitted u c) _ (and-l m _ (and-l (m && not (awaited u c)) _ e)))) in
+      let inside : outOfRange c ≡ false = admitted-inside u c (and-l (admitted u c) _ (and-l m _ (and-l (m && not (awaited u c)) _ e))) in
       let low : c .segment ≤ 127 = ltb-false 127 (c .segment) (or-r (ltb 15 (c .status)) _ inside) in
       omega (arith, low)
 
@@ -180,9 +179,9 @@ shown : (n : ℕ) (u : Unit) (c : Cycle) → reads n u c ≡ true → decision u
 shown n u c e =
     let r : (admitted u c && selectedCommand c && c .read) ≡ true = and-l (admitted u c && selectedCommand c && c .read) _ e in
     let s : (admitted u c && selectedCommand c) ≡ true = and-l (admitted u c && selectedCommand c) _ r in
-    let reading : c .read ≡ true = and-r (admitted u c && selectedCommand c) _ r in
-    let code : c .offset ≡ n = eqb-true _ _ (and-r (admitted u c && selectedCommand c && c .read) _ e) in
-    rw (command-decided u c (and-l (admitted u c) _ s) (and-r (admitted u c) _ s), reading, code)
+    ap (λ (x : Decision). x .answer)
+    (code-decided u c (and-l (admitted u c) _ s) (and-r (admitted u c) _ s) n true (and-r (admitted u c && selectedCommand c) _ r)
+    (and-r (admitted u c && selectedCommand c && c .read) _ e))
 
 pub read-shows : ReadShows
 unfolding commandOf executed replied

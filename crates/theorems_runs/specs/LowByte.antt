@@ -4,6 +4,7 @@ use mathlib.Core.Path.{_≡_}
 use mathlib.Core.Bool.{true, false, cond}
 use mathlib.Core.List.{List, [], _∷_}
 use Prim.Native.Nat.{ℕ}
+use Rattle.rules.specs.Registers.{withLow}
 use Rattle.rules.specs.Runs.{answers, final, units}
 use Rattle.rules.specs.Seen.{cycleWith}
 use Rattle.rules.specs.Step.{stepped}
@@ -17,7 +18,7 @@ use Rattle.theorems_runs.specs.Sequences.{Both, Along}
 
 -- registers, a unit and a cycle with 0 for their low byte
 abbrev pub bareRegisters : Registers → Registers
-bareRegisters r = record { control = r .control; faults = r .faults; fetched = r .fetched; notes = r .notes; low = 0 }
+bareRegisters r = withLow r 0
 
 abbrev pub bareUnit : Unit → Unit
 bareUnit u = record { table = u .table; registers = bareRegisters (u .registers) }

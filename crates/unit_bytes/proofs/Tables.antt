@@ -22,6 +22,10 @@ unfolding tableBytes descriptorBytes
 table-length [] = refl
 table-length (x ∷ t) = let h : length (tableBytes t) ≡ descriptorSize * length t = table-length t in omega (arith, h)
 
+-- the same of a table whose length is known
+pub table-of : (t : List Descriptor) (n : ℕ) → length t ≡ n → length (tableBytes t) ≡ descriptorSize * n
+table-of t n size = table-length t ∙ ap (λ (k : ℕ). descriptorSize * k) size
+
 -- one descriptor more is stored
 pub descriptor-stored : (o : List ℕ) (t : List Descriptor) (i : ℕ) → i < length t
     → sets (sets o tableAt (tableBytes (take i t))) (descriptorAt i) (descriptorBytes (getD t i blank))
@@ -29,8 +33,7 @@ pub descriptor-stored : (o : List ℕ) (t : List Descriptor) (i : ℕ) → i < l
 descriptor-stored o t i h =
     let d : Descriptor = getD t i blank in
     let first : List ℕ = tableBytes (take i t) in
-    let long : length first ≡ descriptorSize * i =
-    table-length (take i t) ∙ ap (λ (k : ℕ). descriptorSize * k) (length-take-le i t (omega arith)) in
+    let long : length first ≡ descriptorSize * i = table-of (take i t) i (length-take-le i t (omega arith)) in
     ap (λ (k : ℕ). sets (sets o tableAt first) (tableAt + k) (descriptorBytes d)) (sym long)
     ∙ sets-append o tableAt first (descriptorBytes d)
     ∙ ap (sets o tableAt) (sym (ap tableBytes (take-suc t i blank h) ∙ table-more (take i t) d))
@@ -39,7 +42,7 @@ descriptor-stored o t i h =
 pub low-stored : (o : List ℕ) (t : List Descriptor) (low : ℕ) → length t ≡ segments
     → set (sets o tableAt (tableBytes t)) lowAt low ≡ sets o tableAt (tableBytes t ++ (low ∷ []))
 low-stored o t low size =
-    ap (λ (k : ℕ). set (sets o tableAt (tableBytes t)) (tableAt + k) low) (sym (table-length t ∙ ap (λ (n : ℕ). descriptorSize * n) size))
+    ap (λ (k : ℕ). set (sets o tableAt (tableBytes t)) (tableAt + k) low) (sym (table-of t segments size))
     ∙ sets-append o tableAt (tableBytes t) (low ∷ [])
 
 -- one descriptor more is read
