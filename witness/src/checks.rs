@@ -1,4 +1,5 @@
-//! The checks of a translated cycle: violations and the write warning.
+//! The checks of a translated cycle: violations and the write warning, and
+//! how near the segment's edge is.
 
 use crate::cycle::Cycle;
 use crate::unit::{attribute, violation, Descriptor};
@@ -49,6 +50,18 @@ pub trait Checks {
             cycle.offset < descriptor.limit
         } else {
             cycle.offset > descriptor.limit
+        }
+    }
+
+    /// "How many whole blocks remain between the accessed block and the last
+    /// permitted one in the segment's direction: limit less offset byte, or
+    /// offset byte less limit with DIRW, and 0 in a length violation" (ticket
+    /// 5), which is where the difference is below 0.
+    fn distance(descriptor: &Descriptor, cycle: &Cycle) -> u8 {
+        if descriptor.has(attribute::DIRW) {
+            cycle.offset.saturating_sub(descriptor.limit)
+        } else {
+            descriptor.limit.saturating_sub(cycle.offset)
         }
     }
 

@@ -58,10 +58,13 @@ pub struct Answer {
     pub sup: bool,
     pub trap: bool,
     pub data: Option<u8>,
+    /// Blocks that remain to the segment's edge, of a translated cycle that is
+    /// not an aborted fetch; 0 in every other answer (ticket 5).
+    pub distance: u8,
 }
 
 impl Answer {
-    /// Nothing driven, SUP off, the trap line as given.
+    /// Nothing driven, SUP off, the trap line as given, no distance.
     pub fn quiet(kind: Kind, trap: bool) -> Answer {
         Answer {
             kind,
@@ -69,6 +72,7 @@ impl Answer {
             sup: false,
             trap,
             data: None,
+            distance: 0,
         }
     }
 }

@@ -19,16 +19,17 @@ pub trait Memory: Translation + Checks + Recording {
         let held = Self::held(unit, cycle);
         match Self::route(unit, cycle) {
             Route::Translated(address) => Self::translated(unit, cycle, address, held),
-            route => Answer {
-                kind: match route {
+            route => {
+                let kind = match route {
                     Route::Passed(_) => Kind::Passed,
                     _ => Kind::Ignored,
-                },
-                address: route.address(),
-                sup: held,
-                trap: unit.request,
-                data: None,
-            },
+                };
+                Answer {
+                    address: route.address(),
+                    sup: held,
+                    ..Answer::quiet(kind, unit.request)
+                }
+            }
         }
     }
 
@@ -42,8 +43,8 @@ pub trait Memory: Translation + Checks + Recording {
         unit.hold = false;
     }
 
-    /// The address is driven as in any cycle; nothing is checked, recorded,
-    /// marked or suppressed.
+    /// The address is driven as in any cycle; nothing is checked, measured,
+    /// recorded, marked or suppressed.
     fn aborted_fetch(unit: &mut Unit, cycle: &Cycle) -> Answer {
         unit.awaits = false;
         Self::start_instruction(unit);
@@ -59,8 +60,12 @@ pub trait Memory: Translation + Checks + Recording {
         unit.hold && !cycle.dma
     }
 
+    /// The distance is carried in a violation as well, with SUP on by hold, and
+    /// for any master.
     fn translated(unit: &mut Unit, cycle: &Cycle, address: u16, held: bool) -> Answer {
-        let finding = Self::check(&unit.table[usize::from(cycle.entry())], cycle);
+        let descriptor = &unit.table[usize::from(cycle.entry())];
+        let finding = Self::check(descriptor, cycle);
+        let distance = Self::distance(descriptor, cycle);
         let sup = held || matches!(finding, Finding::Violation(_));
         if !cycle.dma {
             Self::record(unit, cycle, finding);
@@ -73,11 +78,10 @@ pub trait Memory: Translation + Checks + Recording {
             unit.ioff = cycle.offset;
         }
         Answer {
-            kind: Kind::Translated,
             address: Some(address),
             sup,
-            trap: unit.request,
-            data: None,
+            distance,
+            ..Answer::quiet(Kind::Translated, unit.request)
         }
     }
 

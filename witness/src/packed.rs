@@ -1,6 +1,6 @@
-//! Answers in six bytes each, as the benchmark compares them: the kind's
+//! Answers in seven bytes each, as the benchmark compares them: the kind's
 //! letter, the number of a refusal, the address lines (high byte first), a
-//! byte of flags, the data byte.
+//! byte of flags, the data byte, the distance.
 
 use crate::cycle::{Answer, Kind};
 use crate::step::Step;
@@ -8,7 +8,7 @@ use crate::trace::Layout;
 use crate::unit::Unit;
 use crate::Document01;
 
-pub const BYTES: usize = 6;
+pub const BYTES: usize = 7;
 
 fn letter(kind: Kind) -> (u8, u8) {
     match kind {
@@ -30,10 +30,11 @@ fn pack(answer: &Answer) -> [u8; BYTES] {
         | u8::from(answer.sup) << 1
         | u8::from(answer.trap) << 2
         | u8::from(answer.data.is_some()) << 3;
-    [letter, number, high, low, flags, answer.data.unwrap_or(0)]
+    let data = answer.data.unwrap_or(0);
+    [letter, number, high, low, flags, data, answer.distance]
 }
 
-/// Runs a good trace from power-on into a buffer of six bytes a record.
+/// Runs a good trace from power-on into a buffer of seven bytes a record.
 pub fn run(trace: &[u8], answers: &mut [u8]) {
     let mut unit = Unit::power_on();
     let places = answers.chunks_exact_mut(BYTES);

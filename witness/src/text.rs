@@ -54,7 +54,8 @@ impl fmt::Display for Kind {
     }
 }
 
-/// Kind, address, SUP, trap line and data, parted by one space.
+/// Kind, address, SUP, trap line, data and distance, parted by one space; the
+/// distance in decimal (ticket 5).
 impl fmt::Display for Answer {
     fn fmt(&self, out: &mut fmt::Formatter) -> fmt::Result {
         write!(out, "{} ", self.kind)?;
@@ -64,8 +65,9 @@ impl fmt::Display for Answer {
         }
         write!(out, " {} {} ", u8::from(self.sup), u8::from(self.trap))?;
         match self.data {
-            Some(data) => write!(out, "{data:02X}"),
-            None => out.write_str("--"),
+            Some(data) => write!(out, "{data:02X}")?,
+            None => out.write_str("--")?,
         }
+        write!(out, " {}", self.distance)
     }
 }

@@ -1,6 +1,6 @@
-// Document 01, "Checks": the length of a translated cycle's segment, and the warning at the edge of a stack.
+// Document 01, "Checks": the length of a translated cycle's segment, how many blocks remain to its edge, and the warning at the edge of a stack.
 ghost use mathlib.Core.Path.{_≡_};
-ghost use Rattle.rules.specs.Checks.{outOfLength, warns};
+ghost use Rattle.rules.specs.Checks.{outOfLength, distanceOf, warns};
 use rules::Cycle;
 use rules::Descriptor;
 use rules::Unit;
@@ -14,6 +14,21 @@ pub fn out_of_length(d: Descriptor, c: Cycle) -> bool
         return c.offset < d.limit;
     }
     d.limit < c.offset
+}
+
+// How many whole blocks remain between the accessed one and the last permitted, in the segment's direction; 0 past it.
+pub fn distance(d: Descriptor, c: Cycle) -> u8
+    ensures { λ n. ⌜ n ≡ distanceOf d c ⌝ }
+{
+    let long = out_of_length(d, c);
+    if long {
+        return 0;
+    }
+    let down = d.attributes & Unit::DIRW != 0;
+    if down {
+        return c.offset - d.limit;
+    }
+    d.limit - c.offset
 }
 
 // Whether this cycle warns: a CPU write without violation in the last block of a stack.

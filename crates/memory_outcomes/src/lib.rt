@@ -14,7 +14,7 @@ pub fn aborted(r: Registers, l: Address) -> Decision
     ensures { λ p. ⌜ p ≡ aborted r l ⌝ }
 {
     Decision {
-        answer: rules_answers::seen(Kind::Aborted, l, false, r.notes.request),
+        answer: rules_answers::seen(Kind::Aborted, l, false, r.notes.request, 0),
         registers: memory_fetch::resumed(r),
         change: Change::Keep,
     }
@@ -25,7 +25,7 @@ pub fn untranslated(r: Registers, c: Cycle, l: Address, kind: Kind) -> Decision
     ensures { λ p. ⌜ p ≡ untranslated r c l kind ⌝ }
 {
     Decision {
-        answer: rules_answers::seen(kind, l, !c.dma & r.notes.hold, r.notes.request),
+        answer: rules_answers::seen(kind, l, !c.dma & r.notes.hold, r.notes.request, 0),
         registers: r,
         change: Change::Keep,
     }
@@ -48,8 +48,9 @@ pub fn checked(
     let after = memory_recording::recorded(r, c, event);
     let sup = violation | (!c.dma & r.notes.hold);
     let stores = memory_fetch::is_fetch(c) & !violation & (r.faults.vtr == 0);
+    let distance = memory_length::distance(d, c);
     Decision {
-        answer: rules_answers::seen(Kind::Translated, l, sup, after.notes.request),
+        answer: rules_answers::seen(Kind::Translated, l, sup, after.notes.request, distance),
         registers: memory_touch::noted(after, stores, violation & !c.dma, c),
         change: memory_touch::touched_by(sup, d, c),
     }

@@ -1,6 +1,6 @@
 -- Document 01, "Checks", "on translated cycles only, with descriptor segment modulo 64".
 use mathlib.Core.Bool.{Bool, true, false, not, _&&_, _||_}
-use Prim.Native.Nat.{ℕ}
+use Prim.Native.Nat.{ℕ, _-_}
 use lib.Dec.{eqb, ltb}
 use Rattle.rules.specs.Flags.{has, with, flagIf}
 use Rattle.rules.specs.Masks.{RD, SYS, CPUI, EXC, DMAI, DIRW, RDV, SYSV, CPUIV, EXCV, DMAIV}
@@ -26,6 +26,16 @@ beyond true limit offset = ltb offset limit
 
 unfoldable pub outOfLength : Descriptor → Cycle → Bool
 outOfLength d c = beyond (has (d .attributes) DIRW) (d .limit) (c .offset)
+
+-- Ticket 5: "The length check is to say how many whole blocks remain between the accessed block and the last permitted one in the segment's
+-- direction: limit less offset byte, or offset byte less limit with DIRW, and 0 in a length violation."
+abbrev pub remaining : (long down : Bool) → (limit offset : ℕ) → ℕ
+remaining true down limit offset = 0
+remaining false false limit offset = limit - offset
+remaining false true limit offset = offset - limit
+
+unfoldable pub distanceOf : Descriptor → Cycle → ℕ
+distanceOf d c = remaining (outOfLength d c) (has (d .attributes) DIRW) (d .limit) (c .offset)
 
 -- a violation of either kind
 abbrev pub violates : (rights : ℕ) → (long : Bool) → Bool

@@ -5,7 +5,7 @@ use Rattle.rules.specs.Refusals.{damaged, outOfRange}
 use Rattle.rules.specs.Replies.{plain, refused, seen}
 use Rattle.rules.specs.Status.{resetBy, acknowledgeByte, quieted, acknowledged, ignored, purposeOf, byStatus}
 use Rattle.rules.specs.Translation.{wayOf, blockOf, addressOf}
-use Rattle.rules.specs.Checks.{rightsOf, outOfLength, warns}
+use Rattle.rules.specs.Checks.{rightsOf, outOfLength, distanceOf, warns}
 use Rattle.rules.specs.Recording.{eventOf, busStatus, firstEntry, added, raised, recorded}
 use Rattle.rules.specs.Memory.{resumed, aborted, begun, untranslated, touched, touchedBy, noted, checked}
 use Rattle.rules.specs.Memory.{accessed, memory}
@@ -24,7 +24,7 @@ unfolding damaged outOfRange plain refused seen
 replying = 0
 
 unfoldable pub checking : ℕ
-unfolding wayOf blockOf addressOf rightsOf outOfLength warns
+unfolding wayOf blockOf addressOf rightsOf outOfLength distanceOf warns
 checking = 0
 
 unfoldable pub entering : ℕ

@@ -34,7 +34,7 @@ idle status = cycle false true true status 0 0
 abbrev pub bounds : List Row
 bounds =
     row full (idle 15) (drivesNothing kind.Ignored false true) full ∷
-    row full (cycle false true true 8 127 0x15) (translated 0x2315 false true) fullMarked ∷
+    row full (cycle false true true 8 127 0x15) (translated 0x2315 false true 0xEA) fullMarked ∷
     refusal 1 full (idle 16) ∷
     refusal 1 full (cycle false true true 8 128 0x15) ∷
     refusal 2 (numbered 64 3 127 63 127) (idle 15) ∷
@@ -69,7 +69,7 @@ abbrev pub ignores : Cycle → Row
 ignores c = row (unitWith 0xC0 0 (segment 0 0 0)) c (drivesNothing kind.Ignored false false) (unitWith 0xC0 0 (segment 0 0 0))
 
 abbrev pub translates : Cycle → Row
-translates c = row (unitWith 0xC0 0 (segment 0 0 0)) c (translated 0 false false) (unitWith 0xC0 0 (segment 0 0 0x80))
+translates c = row (unitWith 0xC0 0 (segment 0 0 0)) c (translated 0 false false 0) (unitWith 0xC0 0 (segment 0 0 0x80))
 
 -- "2. Status 4, CPU: acknowledge." "3. Status 3, CPU, select on: command. 4. Status %8 to %D: memory cycle, CPU or DMA. 5. All else is
 -- ignored: nothing driven, nothing changed."

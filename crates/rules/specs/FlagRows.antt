@@ -70,16 +70,16 @@ dma r m status = cycle true r m status 0 0
 
 -- the attributes allow the cycle: nothing is recorded, and they are marked
 abbrev pub allowed : (attributes : ℕ) → Cycle → (marked : ℕ) → Row
-allowed a c marked = row (translating (segment 0 0xFF a)) c (translated 0 false false) (translating (segment 0 0xFF marked))
+allowed a c marked = row (translating (segment 0 0xFF a)) c (translated 0 false false 0xFF) (translating (segment 0 0xFF marked))
 
 -- a violation of the CPU, with the VTR and BCSR that it leaves
 abbrev pub violation : (attributes : ℕ) → Cycle → (vtr bcsr : ℕ) → Row
 violation a c vtr bcsr =
-    row (translating (segment 0 0xFF a)) c (translated 0 true true) (standing (storedOf vtr 0 0 bcsr LOW) everyNote (segment 0 0xFF a))
+    row (translating (segment 0 0xFF a)) c (translated 0 true true 0xFF) (standing (storedOf vtr 0 0 bcsr LOW) everyNote (segment 0 0xFF a))
 
 -- a violation of DMA: SUP alone
 abbrev pub stopped : (attributes : ℕ) → Cycle → Row
-stopped a c = row (translating (segment 0 0xFF a)) c (translated 0 true false) (translating (segment 0 0xFF a))
+stopped a c = row (translating (segment 0 0xFF a)) c (translated 0 true false 0xFF) (translating (segment 0 0xFF a))
 
 -- "RD and a write; SYS and normal mode; EXC and status neither %C nor %D"; "CPUI for the CPU; DMAI for DMA"
 abbrev pub rights : List Row
@@ -129,7 +129,7 @@ marks =
 
 abbrev pub translates : (mr number : ℕ) → (normal : Bool) → Row
 translates mr number m =
-    row (unitWith mr 1 (segment 0x2300 0xFF 0)) (cycle false true m 8 number 0x15) (translated 0x2315 false false)
+    row (unitWith mr 1 (segment 0x2300 0xFF 0)) (cycle false true m 8 number 0x15) (translated 0x2315 false false 0xEA)
     (unitWith mr 1 (segment 0x2300 0xFF 0x80))
 
 abbrev pub passes : (mr number block : ℕ) → Row
@@ -166,7 +166,7 @@ modes =
 -- "The first six VTR flags are primary": beside each of them a later instruction's violation sets FATL, and requests
 abbrev pub primary : (vtr : ℕ) → Row
 primary vtr =
-    row (standing (storedOf vtr 0 0 0 0) (notesOf false false false false) (segment 0 0xFF 0x04)) (cpu read normal 0x8) (translated 0 true true)
+    row (standing (storedOf vtr 0 0 0 0) (notesOf false false false false) (segment 0 0xFF 0x04)) (cpu read normal 0x8) (translated 0 true true 0xFF)
     (standing (storedOf (vtr + 0x80) 0 0 0 0) (notesOf true true false true) (segment 0 0xFF 0x04))
 
 abbrev pub primaries : List Row

@@ -5,7 +5,7 @@ use Rattle.rules.specs.Flags.{with, flagIf}
 use Rattle.rules.specs.Masks.{REF, CHG}
 use Rattle.rules.specs.Bus.{cpu, write, fetch, sevenBits}
 use Rattle.rules.specs.Replies.{seen}
-use Rattle.rules.specs.Checks.{Findings, found}
+use Rattle.rules.specs.Checks.{distanceOf, Findings, found}
 use Rattle.rules.specs.Recording.{eventOf, recorded}
 use Rattle.rules.specs.PowerOn.{notesOf}
 use Rattle.rules.specs.Registers.{withNotes}
@@ -32,10 +32,10 @@ aborts r c = fetch c && r .notes .awaits
 unfoldable pub resumed : Registers → Registers
 resumed r = withNotes r (notesOf (r .notes .request) false false false)
 
--- "the address is driven as below, SUP is off, and nothing is checked or recorded"
+-- "the address is driven as below, SUP is off, and nothing is checked or recorded"; ticket 5: no distance
 unfoldable pub aborted : Registers → Address → Decision
 aborted r l = record {
-  answer = seen kind.Aborted l false (r .notes .request);
+  answer = seen kind.Aborted l false (r .notes .request) 0;
   registers = resumed r;
   change = change.Keep;
 }
@@ -51,10 +51,10 @@ begun r starts =
 abbrev pub suppressed : (violation : Bool) → Registers → Cycle → Bool
 suppressed violation r c = violation || cpu c && r .notes .hold
 
--- a cycle that is not translated: no check, no recording
+-- a cycle that is not translated: no check, no recording; ticket 5: no distance
 unfoldable pub untranslated : Registers → Cycle → Address → Kind → Decision
 untranslated r c l k = record {
-  answer = seen k l (suppressed false r c) (r .notes .request);
+  answer = seen k l (suppressed false r c) (r .notes .request) 0;
   registers = r;
   change = change.Keep;
 }
@@ -85,13 +85,14 @@ noted r stores holds c = record {
   low = r .low;
 }
 
--- a translated cycle, by what its checks find: it is recorded, and "Every CPU violation also sets hold."
+-- a translated cycle, by what its checks find: it is recorded, and "Every CPU violation also sets hold."; ticket 5: "Every answer of a translated
+-- cycle that is not an aborted fetch carries [the distance]; all other answers carry 0", so DMA's, and those of violations and while hold is set
 unfoldable pub checked : Findings → Registers → Descriptor → Cycle → Address → Decision
 checked f r d c l =
     let m : Registers = recorded r c (eventOf (c .dma) f) in
     let sup : Bool = suppressed (f .violation) r c in
     record {
-      answer = seen kind.Translated l sup (m .notes .request);
+      answer = seen kind.Translated l sup (m .notes .request) (distanceOf d c);
       registers = noted m (storing r c (f .violation)) (f .violation && cpu c) c;
       change = touchedBy sup d c;
     }

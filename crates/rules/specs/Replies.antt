@@ -15,12 +15,12 @@ abbrev pub off : Address
 off = record { driven = false; block = 0 }
 
 -- what a memory cycle answers: no data byte
-unfoldable pub seen : Kind → Address → (sup trap : Bool) → Answer
-seen k l sup trap = record { kind = k; address = l; sup = sup; trap = trap; drives = false; byte = 0 }
+unfoldable pub seen : Kind → Address → (sup trap : Bool) → (distance : ℕ) → Answer
+seen k l sup trap n = record { kind = k; address = l; sup = sup; trap = trap; drives = false; byte = 0; distance = n }
 
--- what any other cycle answers: no address, and SUP off
+-- what any other cycle answers: no address, SUP off, and no distance
 abbrev pub spoken : Kind → (trap drives : Bool) → (byte : ℕ) → Answer
-spoken k trap drives b = record { kind = k; address = off; sup = false; trap = trap; drives = drives; byte = b }
+spoken k trap drives b = record { kind = k; address = off; sup = false; trap = trap; drives = drives; byte = b; distance = 0 }
 
 -- nothing driven, SUP off; the trap line shows the request as it stands in the registers r
 unfoldable pub plain : Kind → Registers → Change → Decision

@@ -45,7 +45,7 @@ sameAnswer a b =
     eqb (letterOf (a .kind)) (letterOf (b .kind)) && eqb (numberOf (a .kind)) (numberOf (b .kind))
     && sameBit (a .address .driven) (b .address .driven) && eqb (a .address .block) (b .address .block)
     && sameBit (a .sup) (b .sup) && sameBit (a .trap) (b .trap)
-    && sameBit (a .drives) (b .drives) && eqb (a .byte) (b .byte)
+    && sameBit (a .drives) (b .drives) && eqb (a .byte) (b .byte) && eqb (a .distance) (b .distance)
 
 abbrev pub sameTable : List Descriptor → List Descriptor → Bool
 sameTable [] [] = true
@@ -168,30 +168,32 @@ resets = resetAt 0 false
 
 -- Answers
 
-abbrev pub answerWith : Kind → (driven : Bool) → (block : ℕ) → (sup trap drives : Bool) → (byte : ℕ) → Answer
-answerWith k driven block sup trap drives b = record {
+abbrev pub answerWith : Kind → (driven : Bool) → (block : ℕ) → (sup trap drives : Bool) → (byte distance : ℕ) → Answer
+answerWith k driven block sup trap drives b n = record {
   kind = k;
   address = record { driven = driven; block = block };
   sup = sup;
   trap = trap;
   drives = drives;
   byte = b;
+  distance = n;
 }
 
--- the address driven, and no data byte
+-- the address driven, and no data byte; ticket 5: no distance, since nothing was checked
 abbrev pub drivesBlock : Kind → (block : ℕ) → (sup trap : Bool) → Answer
-drivesBlock k block sup trap = answerWith k true block sup trap false 0
+drivesBlock k block sup trap = answerWith k true block sup trap false 0 0
 
 -- the data byte driven, and no address
 abbrev pub drivesByte : Kind → (byte : ℕ) → (trap : Bool) → Answer
-drivesByte k b trap = answerWith k false 0 false trap true b
+drivesByte k b trap = answerWith k false 0 false trap true b 0
 
 -- "not driven, [..] marked so and has the value 0"
 abbrev pub drivesNothing : Kind → (sup trap : Bool) → Answer
-drivesNothing k sup trap = answerWith k false 0 sup trap false 0
+drivesNothing k sup trap = answerWith k false 0 sup trap false 0 0
 
-abbrev pub translated : (block : ℕ) → (sup trap : Bool) → Answer
-translated = drivesBlock kind.Translated
+-- a cycle that was checked: the address driven, and how many blocks remain to the edge of its segment
+abbrev pub translated : (block : ℕ) → (sup trap : Bool) → (distance : ℕ) → Answer
+translated block sup trap n = answerWith kind.Translated true block sup trap false 0 n
 
 -- "address and data not driven, SUP off, trap line as the request stood; unit unchanged"
 abbrev pub refusal : (number : ℕ) → Unit → Cycle → Row

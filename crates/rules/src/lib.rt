@@ -86,7 +86,7 @@ pub struct Address {
     pub block: u16,
 }
 
-// What the unit drives. A data byte that is not driven has the value 0.
+// What the unit drives, and how many blocks a translated cycle is from the edge of its segment. A data byte that is not driven has the value 0.
 pub struct Answer {
     pub kind: Kind,
     pub address: Address,
@@ -94,6 +94,7 @@ pub struct Answer {
     pub trap: bool,
     pub drives: bool,
     pub byte: u8,
+    pub distance: u8,
 }
 
 // What the status asks for.

@@ -10,8 +10,8 @@ use rules::Kind;
 use rules::Registers;
 
 // What a memory cycle answers: no data byte.
-pub fn seen(kind: Kind, l: Address, sup: bool, trap: bool) -> Answer
-    ensures { λ a. ⌜ a ≡ seen kind l sup trap ⌝ }
+pub fn seen(kind: Kind, l: Address, sup: bool, trap: bool, distance: u8) -> Answer
+    ensures { λ a. ⌜ a ≡ seen kind l sup trap distance ⌝ }
 {
     Answer {
         kind,
@@ -20,10 +20,11 @@ pub fn seen(kind: Kind, l: Address, sup: bool, trap: bool) -> Answer
         trap,
         drives: false,
         byte: 0,
+        distance,
     }
 }
 
-// What any other cycle answers: no address, and SUP off.
+// What any other cycle answers: no address, SUP off, and no distance.
 pub fn spoken(kind: Kind, trap: bool, drives: bool, byte: u8) -> Answer
     ensures { λ a. ⌜ a ≡ spoken kind trap drives byte ⌝ }
 {
@@ -37,6 +38,7 @@ pub fn spoken(kind: Kind, trap: bool, drives: bool, byte: u8) -> Answer
         trap,
         drives,
         byte,
+        distance: 0,
     }
 }
 

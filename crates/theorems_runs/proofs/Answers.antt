@@ -1,15 +1,16 @@
--- What a cycle answers: one walk over every decision shows the kind, the address lines, SUP, and that a refusal decides nothing else.
+-- What a cycle answers: one walk over every decision shows the kind, the address lines, SUP, the distance, and that a refusal decides nothing
+-- else.
 -- Assumes nothing.
 use mathlib.Core.Path.{_≡_, refl, sym, _∙_, ap}
 use mathlib.Core.Bool.{Bool, true, false, cond, not, _&&_, _||_, Bool·beq, and-false}
 use mathlib.Core.Option.{Option, none, some}
-use Prim.Native.Nat.{ℕ, _+_, _*_, _%_}
+use Prim.Native.Nat.{ℕ, _+_, _*_, _-_, _%_}
 use lib.Dec.{eqb, leb, ltb}
 use lib.ListN.{getD}
 use borrow.Author.Tests.{eqb-true, not-true}
 use Rattle.rules.proofs.Blind.{isTranslated, own-segment}
 use Rattle.rules.specs.Bus.{cpu, write, fetch, program}
-use Rattle.rules.specs.Checks.{rightsOf, beyond, outOfLength, violates}
+use Rattle.rules.specs.Checks.{rightsOf, beyond, outOfLength, remaining, distanceOf, violates}
 use Rattle.rules.specs.Flags.{has, lacks, with, flagIf}
 use Rattle.rules.specs.Masks.{RD, SYS, CPUI, EXC, DMAI, DIRW, RDV, SYSV, CPUIV, EXCV, DMAIV}
 use Rattle.rules.specs.Masks.{NMS, MST, URS, TRNS, MSEN, UPPER}
@@ -24,6 +25,7 @@ use Rattle.rules.specs.Commands.{replied, programmed, entry, acted, executed, c
 use Rattle.rules.specs.Step.{decidedBy, decided, place, decision}
 use Rattle.rules.specs.declared.Action.{Action}
 use Rattle.rules.specs.declared.Action.the-variants.{SoftwareReset, ClearVtr, ClearSww, ClearFatl, SetCpui, SetDmai}
+use Rattle.rules.specs.declared.Answer.{Answer}
 use Rattle.rules.specs.declared.Command.{Command}
 use Rattle.rules.specs.declared.Command.the-variants.{Mr, Sar, Dscr, Show, Entry, Act, Unlisted}
 use Rattle.rules.specs.declared.Cycle.{Cycle}
@@ -36,7 +38,7 @@ use Rattle.rules.specs.declared.Registers.{Registers}
 use Rattle.rules.specs.declared.Unit.{Unit}
 use Rattle.rules.specs.declared.Way.{Way}
 use Rattle.theorems_runs.specs.Answers.{awaited, kindBy, KindExactly, isAborted, AbortedExactly, segmentOf, driven, AddressExactly}
-use Rattle.theorems_runs.specs.Answers.{breaks, SupExactly}
+use Rattle.theorems_runs.specs.Answers.{beyondLimit, breaks, SupExactly, blocksLeft, DistanceExactly}
 use Rattle.theorems_runs.specs.Cycles.{selectedCommand, acknowledge, memoryCycle, fetches, passingConditions, translationConditions}
 use Rattle.theorems_runs.specs.Cycles.{readOnly, setOrClear, listed}
 use Rattle.theorems_runs.specs.Refusal.{numberIn, earliest, refusalOf, admitted}
@@ -100,50 +102,66 @@ pub data Judged (r : Registers) (x : Decision) : Kind → Type 0 where
   refuses : (n : ℕ) → x ≡ refused n r → Judged r x (kind.Refused n)
   accepts : {k : Kind} → numberIn k ≡ none → Judged r x k
 
-pub record Says (r : Registers) (x : Decision) (k : Kind) (l : Address) (s : Bool) : Type 0 where
-  pub kind : x .answer .kind ≡ k
-  pub address : x .answer .address ≡ l
-  pub sup : x .answer .sup ≡ s
-  pub left : Judged r x k
+-- an answer but for the trap line and the data byte
+pub record Shown : Type 0 where
+  pub kind : Kind
+  pub address : Address
+  pub sup : Bool
+  pub distance : ℕ
+
+abbrev pub shown : Kind → Address → (sup : Bool) → (distance : ℕ) → Shown
+shown k l s n = record { kind = k; address = l; sup = s; distance = n }
+
+abbrev pub shownOf : Answer → Shown
+shownOf a = shown (a .kind) (a .address) (a .sup) (a .distance)
+
+-- a command, and all but a memory cycle
+abbrev quiet : Kind → Shown
+quiet k = shown k off false 0
+
+pub record Says (r : Registers) (x : Decision) (s : Shown) : Type 0 where
+  pub answer : shownOf (x .answer) ≡ s
+  pub left : Judged r x (s .kind)
 
 module _ (r : Registers) (d : Descriptor) (c : Cycle) where
   memory-says : (b : Bool) (w : Way) (l : Address)
-      → Says r (memoryBy b w r d c l) (kindBy none false false false true b (isTranslated w) (isPassed w)) l
-      (not b && (isTranslated w && fails d c || cpu c && (r .notes .hold && not (fetch c))))
+      → Says r (memoryBy b w r d c l)
+      (shown (kindBy none false false false true b (isTranslated w) (isPassed w)) l
+      (not b && (isTranslated w && fails d c || cpu c && (r .notes .hold && not (fetch c)))) (cond (not b && isTranslated w) (distanceOf d c) 0))
   unfolding aborted seen untranslated begun accessed checked
-  memory-says true w l = record { kind = refl; address = refl; sup = refl; left = accepts refl }
-  memory-says false way.Translated l = record { kind = refl; address = refl; sup = refl; left = accepts refl }
-  memory-says false way.Passed l = record { kind = refl; address = refl; sup = refl; left = accepts refl }
-  memory-says false way.Silent l = record { kind = refl; address = refl; sup = refl; left = accepts refl }
+  memory-says true w l = record { answer = refl; left = accepts refl }
+  memory-says false way.Translated l = record { answer = refl; left = accepts refl }
+  memory-says false way.Passed l = record { answer = refl; left = accepts refl }
+  memory-says false way.Silent l = record { answer = refl; left = accepts refl }
 
-  acted-says : (a : Action) → Says r (acted r a) kind.Command off false
+  acted-says : (a : Action) → Says r (acted r a) (quiet kind.Command)
   unfolding acted plain
-  acted-says SoftwareReset = record { kind = refl; address = refl; sup = refl; left = accepts refl }
-  acted-says ClearVtr = record { kind = refl; address = refl; sup = refl; left = accepts refl }
-  acted-says ClearSww = record { kind = refl; address = refl; sup = refl; left = accepts refl }
-  acted-says ClearFatl = record { kind = refl; address = refl; sup = refl; left = accepts refl }
-  acted-says SetCpui = record { kind = refl; address = refl; sup = refl; left = accepts refl }
-  acted-says SetDmai = record { kind = refl; address = refl; sup = refl; left = accepts refl }
+  acted-says SoftwareReset = record { answer = refl; left = accepts refl }
+  acted-says ClearVtr = record { answer = refl; left = accepts refl }
+  acted-says ClearSww = record { answer = refl; left = accepts refl }
+  acted-says ClearFatl = record { answer = refl; left = accepts refl }
+  acted-says SetCpui = record { answer = refl; left = accepts refl }
+  acted-says SetDmai = record { answer = refl; left = accepts refl }
 
   executed-says : (m : Command) (read b t p : Bool)
       → Says r (executed m read r d c)
-      (kindBy (earliest false false (not (isListed m)) (not read && isShow m || read && isAct m)) false false true false b t p) off false
+      (quiet (kindBy (earliest false false (not (isListed m)) (not read && isShow m || read && isAct m)) false false true false b t p))
   unfolding executed programmed replied entry refused plain
-  executed-says Mr true b t p = record { kind = refl; address = refl; sup = refl; left = accepts refl }
-  executed-says Mr false b t p = record { kind = refl; address = refl; sup = refl; left = accepts refl }
-  executed-says Sar true b t p = record { kind = refl; address = refl; sup = refl; left = accepts refl }
-  executed-says Sar false b t p = record { kind = refl; address = refl; sup = refl; left = accepts refl }
-  executed-says Dscr true b t p = record { kind = refl; address = refl; sup = refl; left = accepts refl }
-  executed-says Dscr false b t p = record { kind = refl; address = refl; sup = refl; left = accepts refl }
-  executed-says (Show g) true b t p = record { kind = refl; address = refl; sup = refl; left = accepts refl }
-  executed-says (Show g) false b t p = record { kind = refl; address = refl; sup = refl; left = refuses 4 refl }
-  executed-says (Entry x) true b t p = record { kind = refl; address = refl; sup = refl; left = accepts refl }
-  executed-says (Entry x) false b t p = record { kind = refl; address = refl; sup = refl; left = accepts refl }
-  executed-says (Act a) true b t p = record { kind = refl; address = refl; sup = refl; left = refuses 4 refl }
+  executed-says Mr true b t p = record { answer = refl; left = accepts refl }
+  executed-says Mr false b t p = record { answer = refl; left = accepts refl }
+  executed-says Sar true b t p = record { answer = refl; left = accepts refl }
+  executed-says Sar false b t p = record { answer = refl; left = accepts refl }
+  executed-says Dscr true b t p = record { answer = refl; left = accepts refl }
+  executed-says Dscr false b t p = record { answer = refl; left = accepts refl }
+  executed-says (Show g) true b t p = record { answer = refl; left = accepts refl }
+  executed-says (Show g) false b t p = record { answer = refl; left = refuses 4 refl }
+  executed-says (Entry x) true b t p = record { answer = refl; left = accepts refl }
+  executed-says (Entry x) false b t p = record { answer = refl; left = accepts refl }
+  executed-says (Act a) true b t p = record { answer = refl; left = refuses 4 refl }
   executed-says (Act a) false b t p = acted-says a
-  executed-says Unlisted read b t p = record { kind = refl; address = refl; sup = refl; left = refuses 3 refl }
+  executed-says Unlisted read b t p = record { answer = refl; left = refuses 3 refl }
 
-  -- the way of a memory cycle, its lines and its SUP
+  -- the way of a memory cycle, its lines, its SUP and its distance
   wayHere : Way
   wayHere = wayOf (r .control .mr) c
 
@@ -155,23 +173,28 @@ module _ (r : Registers) (d : Descriptor) (c : Cycle) where
       not (aborts r c)
       && (isTranslated wayHere && fails d c || cpu c && (r .notes .hold && not (fetch c)))
 
+  pub distanceHere : ℕ
+  distanceHere = cond (not (aborts r c) && isTranslated wayHere) (distanceOf d c) 0
+
   purpose-says : (p : Purpose) (x y : Bool)
       → Says r (byPurpose p x y r d c)
+      (shown
       (kindBy
       (earliest false false (isCommand p && y && not (isListed (commandOf (c .offset))))
       (isCommand p && y && (write c && isShow (commandOf (c .offset)) || c .read && isAct (commandOf (c .offset)))))
       false (isAcknowledge p && x) (isCommand p && y) (isMemory p) (aborts r c) (isTranslated wayHere) (isPassed wayHere))
-      (cond (isMemory p) addressHere off) (isMemory p && supHere)
-  unfolding wayHere addressHere supHere acknowledged ignored plain commanded memory
-  purpose-says purpose.Acknowledge true y = record { kind = refl; address = refl; sup = refl; left = accepts refl }
-  purpose-says purpose.Acknowledge false y = record { kind = refl; address = refl; sup = refl; left = accepts refl }
+      (cond (isMemory p) addressHere off) (isMemory p && supHere) (cond (isMemory p) distanceHere 0))
+  unfolding wayHere addressHere supHere distanceHere acknowledged ignored plain commanded memory
+  purpose-says purpose.Acknowledge true y = record { answer = refl; left = accepts refl }
+  purpose-says purpose.Acknowledge false y = record { answer = refl; left = accepts refl }
   purpose-says purpose.Command x true = executed-says (commandOf (c .offset)) (c .read) _ _ _
-  purpose-says purpose.Command x false = record { kind = refl; address = refl; sup = refl; left = accepts refl }
+  purpose-says purpose.Command x false = record { answer = refl; left = accepts refl }
   purpose-says purpose.Memory x y = memory-says (aborts r c) wayHere addressHere
-  purpose-says purpose.Other x y = record { kind = refl; address = refl; sup = refl; left = accepts refl }
+  purpose-says purpose.Other x y = record { answer = refl; left = accepts refl }
 
   decided-says : (two one reset : Bool)
       → Says r (decidedBy two one reset r d c)
+      (shown
       (kindBy
       (earliest two one (not reset && eqb (c .status) 3 && (cpu c && c .select) && not (listed (c .offset)))
       (not reset && eqb (c .status) 3 && (cpu c && c .select) && (write c && readOnly (c .offset) || c .read && setOrClear (c .offset))))
@@ -180,10 +203,11 @@ module _ (r : Registers) (d : Descriptor) (c : Cycle) where
       (not reset && (cpu c && c .read && eqb (c .status) 13) && r .notes .awaits) (isTranslated wayHere) (isPassed wayHere))
       (cond (not two && not one && (not reset && (leb 8 (c .status) && leb (c .status) 13))) addressHere off)
       (not two && not one && (not reset && (leb 8 (c .status) && leb (c .status) 13)) && supHere)
+      (cond (not two && not one && (not reset && (leb 8 (c .status) && leb (c .status) 13))) distanceHere 0))
   unfolding refused resetBy plain byStatus
-  decided-says true one reset = record { kind = refl; address = refl; sup = refl; left = refuses 2 refl }
-  decided-says false true reset = record { kind = refl; address = refl; sup = refl; left = refuses 1 refl }
-  decided-says false false true = record { kind = refl; address = refl; sup = refl; left = accepts refl }
+  decided-says true one reset = record { answer = refl; left = refuses 2 refl }
+  decided-says false true reset = record { answer = refl; left = refuses 1 refl }
+  decided-says false false true = record { answer = refl; left = accepts refl }
   decided-says false false false =
       rw (
         ← command-status (c .status),
@@ -202,16 +226,21 @@ kindSaid u c =
     (isTranslated (wayOf (u .registers .control .mr) c)) (isPassed (wayOf (u .registers .control .mr) c))
 
 pub says : (u : Unit) (c : Cycle)
-    → Says (u .registers) (decision u c) (kindSaid u c)
+    → Says (u .registers) (decision u c)
+    (shown (kindSaid u c)
     (cond (admitted u c && memoryCycle c) (addressOf (wayOf (u .registers .control .mr) c) (getD (u .table) (place u c) blank .base) c) off)
     (admitted u c && memoryCycle c && supHere (u .registers) (getD (u .table) (place u c) blank) c)
+    (cond (admitted u c && memoryCycle c) (distanceHere (u .registers) (getD (u .table) (place u c) blank) c) 0))
 unfolding decision decided wayHere addressHere
 says u c = decided-says (u .registers) (getD (u .table) (place u c) blank) c (damaged (u .registers)) (outOfRange c) (c .reset)
 
 -- Kind
 
+pub says-kind : (u : Unit) (c : Cycle) → decision u c .answer .kind ≡ kindSaid u c
+says-kind u c = ap (λ (s : Shown). s .kind) (says u c .answer)
+
 pub kind-exactly : KindExactly
-kind-exactly u c = rw (← conditions-way (u .registers .control .mr) c, ← passing-way (u .registers .control .mr) c) (says u c .kind)
+kind-exactly u c = rw (← conditions-way (u .registers .control .mr) c, ← passing-way (u .registers .control .mr) c) (says-kind u c)
 
 -- no kind but that of an awaited fetch
 none-aborted : (o : Option ℕ) (r a k m t p : Bool) → isAborted (kindBy o r a k m false t p) ≡ false
@@ -257,12 +286,12 @@ memory-place u c e =
     ap (λ (n : ℕ). n % 64)
     (own-segment (u .registers) c (differs (λ s. leb 8 s && leb s 13) (c .status) 3 (and-r (not (c .reset)) _ e) refl))
 
--- lines that are the same wherever they are driven
-cond-same : (t : Bool) (l m : Address) → (t ≡ true → l ≡ m) → cond t l off ≡ cond t m off
+-- what is the same wherever it is said
+cond-same : {A : Type 0} {z : A} (t : Bool) (l m : A) → (t ≡ true → l ≡ m) → cond t l z ≡ cond t m z
 cond-same true l m h = h refl
 cond-same false l m h = refl
 
-cond-nest : (a b : Bool) (l : Address) → cond a (cond b l off) off ≡ cond (a && b) l off
+cond-nest : {A : Type 0} {z : A} (a b : Bool) (l : A) → cond a (cond b l z) z ≡ cond (a && b) l z
 cond-nest true b l = refl
 cond-nest false b l = refl
 
@@ -270,7 +299,7 @@ pub address-exactly : AddressExactly
 address-exactly u c =
     let mr : ℕ = u .registers .control .mr in
     let m : Bool = admitted u c && memoryCycle c in
-    says u c .address
+    ap (λ (s : Shown). s .address) (says u c .answer)
     ∙ cond-same m _ (addressOf (wayOf mr c) (segmentOf u c .base) c)
     (λ e. ap (λ (i : ℕ). addressOf (wayOf mr c) (getD (u .table) i blank .base) c) (memory-place u c (and-r (admitted u c) _ e)))
     ∙ ap (λ (l : Address). cond m l off) (lines-way mr (segmentOf u c .base) c)
@@ -348,9 +377,51 @@ unfolding supHere wayHere
 sup-exactly u c =
     let mr : ℕ = u .registers .control .mr in
     let m : Bool = admitted u c && memoryCycle c in
-    says u c .sup
+    ap (λ (s : Shown). s .sup) (says u c .answer)
     ∙ where-true m _ (supHere (u .registers) (segmentOf u c) c)
     (λ e. ap (λ (i : ℕ). supHere (u .registers) (getD (u .table) i blank) c) (memory-place u c (and-r (admitted u c) _ e)))
     ∙ rw (conditions-way mr c, breaks-exactly (segmentOf u c) c)
     (two-causes (admitted u c) (c .reset) (leb 8 (c .status) && leb (c .status) 13) (fetch c) (u .registers .notes .awaits)
     (translationConditions mr c) (breaks (segmentOf u c) c) (cpu c) (u .registers .notes .hold))
+
+-- Distance
+
+-- in the ticket's own words
+blocks-exactly : (d : Descriptor) (c : Cycle) → distanceOf d c ≡ blocksLeft d (c .offset)
+unfolding distanceOf outOfLength
+blocks-exactly d c = go (has (d .attributes) DIRW)
+  where
+    cut : (t down : Bool) → remaining t down (d .limit) (c .offset) ≡ cond t 0 (cond down (c .offset - d .limit) (d .limit - c .offset))
+    cut true down = refl
+    cut false true = refl
+    cut false false = refl
+
+    go : (down : Bool)
+        → remaining (beyond down (d .limit) (c .offset)) down (d .limit) (c .offset)
+        ≡ cond (cond down (ltb (c .offset) (d .limit)) (ltb (d .limit) (c .offset))) 0 (cond down (c .offset - d .limit) (d .limit - c .offset))
+    go true = cut (ltb (c .offset) (d .limit)) true
+    go false = cut (ltb (d .limit) (c .offset)) false
+
+-- an aborted fetch is a fetch without reset
+one-way : (a r m f w t : Bool) (n : ℕ)
+    → cond (a && (not r && m)) (cond (not (f && w) && t) n 0) 0 ≡ cond (a && (not r && m) && not (not r && f && w) && t) n 0
+one-way false r m f w t n = refl
+one-way true true m f w t n = refl
+one-way true false false f w t n = refl
+one-way true false true f w t n = refl
+
+pub distance-exactly : DistanceExactly
+unfolding distanceHere wayHere
+distance-exactly u c =
+    let mr : ℕ = u .registers .control .mr in
+    let m : Bool = admitted u c && memoryCycle c in
+    ap (λ (s : Shown). s .distance) (says u c .answer)
+    ∙ cond-same m _ (distanceHere (u .registers) (segmentOf u c) c)
+    (λ e. ap (λ (i : ℕ). distanceHere (u .registers) (getD (u .table) i blank) c) (memory-place u c (and-r (admitted u c) _ e)))
+    ∙ rw (conditions-way mr c, blocks-exactly (segmentOf u c) c)
+    (one-way (admitted u c) (c .reset) (leb 8 (c .status) && leb (c .status) 13) (fetch c) (u .registers .notes .awaits)
+    (translationConditions mr c) (blocksLeft (segmentOf u c) (c .offset)))
+
+-- a cycle that is answered so is translated
+pub translates : (u : Unit) (c : Cycle) → stepped u c .answer .kind ≡ kind.Translated → translated u c ≡ true
+translates u c e = ?

@@ -26,13 +26,13 @@ use Rattle.rules.specs.declared.Purpose.{Purpose}
 use Rattle.rules.specs.declared.Registers.{Registers}
 use Rattle.rules.specs.declared.Unit.{Unit}
 use Rattle.rules.specs.declared.Way.{Way}
-use Rattle.theorems_runs.specs.Answers.{awaited, kindBy, driven, breaks, heldBack, SameMr}
+use Rattle.theorems_runs.specs.Answers.{awaited, kindBy, driven, breaks, heldBack, blocksLeft, SameMr}
 use Rattle.theorems_runs.specs.Cycles.{selectedCommand, acknowledge, memoryCycle, fetches, passingConditions, translationConditions}
 use Rattle.theorems_runs.specs.Dma.{SameSegment, DmaLeaves, DmaLeavesNeeds, DmaMarks, DmaTrap, DmaAnswers, DmaAnswersNeed}
 use Rattle.theorems_runs.specs.Dma.{DmaMarksNeeds, DmaTrapNeeds}
 use Rattle.theorems_runs.specs.Refusal.{earliest, unlisted, wrongWay, admitted}
 use Rattle.theorems_runs.specs.Trap.{requesting}
-use Rattle.theorems_runs.proofs.Answers.{fails, kind-exactly, address-exactly, sup-exactly}
+use Rattle.theorems_runs.proofs.Answers.{fails, kind-exactly, address-exactly, sup-exactly, distance-exactly}
 use Rattle.theorems_runs.proofs.Computed.{computed}
 use Rattle.theorems_runs.proofs.Descriptors.{spares-all, marks-exactly}
 use Rattle.theorems_runs.proofs.Examples.{bare}
@@ -146,6 +146,10 @@ module _ (c : Cycle) where
   supFrom two waits held mr d =
       not two && not (outOfRange c) && memoryCycle c && not waits && translationConditions mr c && breaks d c || held
 
+  distanceFrom : (two waits : Bool) → (mr : ℕ) → Descriptor → ℕ
+  distanceFrom two waits mr d =
+      cond (not two && not (outOfRange c) && memoryCycle c && not waits && translationConditions mr c) (blocksLeft d (c .offset)) 0
+
 module _ (a b : Unit) (c : Cycle) (two : damaged (a .registers) ≡ damaged (b .registers)) (dma : c .dma ≡ true) (mr : SameMr a b)
     (d : SameSegment a b c) where
   waits : awaited a c ≡ awaited b c
@@ -173,6 +177,14 @@ module _ (a b : Unit) (c : Cycle) (two : damaged (a .registers) ≡ damaged (b .
           → supFrom c t w h m x ≡ supFrom c t' w' h' m' x'
       go p q s v z = rw (p, q, s, v, z)
 
+  same-distance : stepped a c .answer .distance ≡ stepped b c .answer .distance
+  unfolding distanceFrom
+  same-distance = distance-exactly a c ∙ go two waits mr d ∙ sym (distance-exactly b c)
+    where
+      go : {t t' w w' : Bool} {m m' : ℕ} {x x' : Descriptor} → t ≡ t' → w ≡ w' → m ≡ m' → x ≡ x'
+          → distanceFrom c t w m x ≡ distanceFrom c t' w' m' x'
+      go p q s v = rw (p, q, s, v)
+
 pub dma-answers : DmaAnswers
 dma-answers a b c h =
     let two : damaged (a .registers) ≡ damaged (b .registers) = h .0 ∙ sym (h .1) in
@@ -182,6 +194,7 @@ dma-answers a b c h =
       sup = same-sup a b c two (h .2) (h .3) (h .4);
       drives = idle a c (h .2) .drives ∙ sym (idle b c (h .2) .drives);
       byte = idle a c (h .2) .byte ∙ sym (idle b c (h .2) .byte);
+      distance = same-distance a b c two (h .2) (h .3) (h .4);
     }
 
 -- Counterexamples

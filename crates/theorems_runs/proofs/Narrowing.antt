@@ -17,11 +17,11 @@ use Rattle.theorems_runs.specs.Cycles.{selectedCommand, acknowledge, mem
 use Rattle.theorems_runs.specs.Hold.{holds}
 use Rattle.theorems_runs.specs.Refusal.{admitted}
 use Rattle.theorems_runs.specs.Sequences.{Every}
-use Rattle.theorems_runs.specs.Unstopped.{tableWrite, TableWrite, NarrowedInPlace, NarrowedAndPutBack, NarrowingOpensNothing}
+use Rattle.theorems_runs.specs.Unstopped.{tableWrite, TableWrite, NarrowedInPlace, NarrowedAndPutBack, NarrowingOpensNothing, NarrowingNears}
 use Rattle.theorems_runs.proofs.Hold.{hold-exactly}
 use Rattle.theorems_runs.proofs.Tests.{and-l, and-r, differs}
 use Rattle.theorems_runs.proofs.Undamaged.{stays-undamaged}
-use Rattle.theorems_runs.proofs.Unstopped.{mr-exactly, covers-unstopped, covers-with-writes}
+use Rattle.theorems_runs.proofs.Unstopped.{mr-exactly, covers-unstopped, covers-with-writes, nearer-unstopped}
 
 -- v has the MR and the hold of u
 record Alike (u v : Unit) : Type 0 where
@@ -105,4 +105,10 @@ pub narrowing-opens-nothing : NarrowingOpensNothing
 narrowing-opens-nothing = (
   λ u ws h w t cs f. covers-unstopped (final u ws) u cs (narrowed-in-place u ws h w t) f,
   λ u ws h w t cs f. covers-with-writes (final u ws) u cs (narrowed-and-put-back u ws h w t) f,
+)
+
+pub narrowing-nears : NarrowingNears
+narrowing-nears = (
+  λ u ws h w t. nearer-unstopped .0 (final u ws) u (narrowed-in-place u ws h w t),
+  λ u ws h w t. nearer-unstopped .1 (final u ws) u (narrowed-and-put-back u ws h w t),
 )

@@ -12,7 +12,7 @@ use Rattle.rules.specs.declared.Cycle.{Cycle}
 use Rattle.rules.specs.declared.Descriptor.{Descriptor}
 use Rattle.rules.specs.declared.Unit.{Unit}
 use Rattle.theorems_runs.specs.Sequences.{Both}
-use Rattle.theorems_runs.specs.Tighter.{Wider, Loosened, Covers, before, NoDescriptorWrite, TighterCovers, StopNeeded}
+use Rattle.theorems_runs.specs.Tighter.{Wider, Loosened, Covers, before, NoDescriptorWrite, TighterBy, StopNeeded}
 use Rattle.theorems_runs.specs.Tighter.{WritesExcluded}
 use Rattle.theorems_runs.proofs.Computed.{computed}
 use Rattle.theorems_runs.proofs.Examples.{unit, unit-undamaged, wider-entries, readOnly, writable, closed, writable-wider}
@@ -38,7 +38,7 @@ stop-needed claim = refuted _ claim refl
     second = unit blank writable closed
 
     -- by any stop that leaves both cycles
-    refuted : (stop : Unit → Unit → Cycle → Bool) → TighterCovers NoDescriptorWrite stop
+    refuted : (stop : Unit → Unit → Cycle → Bool) → TighterBy Covers NoDescriptorWrite stop
         → before stop first second faultThenFetch ≡ faultThenFetch → ⊥
     refuted stop claim both =
         false≢true
@@ -48,7 +48,7 @@ stop-needed claim = refuted _ claim refl
         (refl, (refl, refl))) .1 .0 .sup refl)
 
 -- Writes to descriptors. Segment 0 ends at %10 in the first unit and at %20 in the second. Once DIRW is written to both, it begins there: the
--- block %18 is then inside the first's and outside the second's.
+-- block %18 is then inside the first's and outside the second's, and %30 is %20 blocks from the first's edge and %10 from the second's.
 
 short : Descriptor
 short = segment 0 0x10 0
@@ -56,8 +56,8 @@ short = segment 0 0x10 0
 long : Descriptor
 long = segment 0 0x20 0
 
-turnThenRead : List Cycle
-turnThenRead = command false 0x0A DIRW ∷ cycle false true false 8 0 0x18 ∷ []
+turnThenRead : (offset : ℕ) → List Cycle
+turnThenRead offset = command false 0x0A DIRW ∷ cycle false true false 8 0 offset ∷ []
 
 long-wider : Wider short long
 unfolding short long
@@ -72,8 +72,12 @@ long-wider =
 
 pub writes-excluded : WritesExcluded
 unfolding short long turnThenRead before computed
-writes-excluded claim =
-    false≢true
-    (claim (unit short blank blank) (unit long blank blank) turnThenRead
-    (unit-undamaged _ _ _) (unit-undamaged _ _ _) (unit-loosened long-wider (wider-refl _))
-    (refl, (refl, refl)) .1 .0 .sup refl)
+writes-excluded = (λ claim. false≢true (told claim 0x18 .sup refl), λ claim. absurd (omega (arith, told claim 0x30 refl refl)))
+  where
+    told : {Line : Answer → Answer → Type 0} → TighterBy Line Any inEither → (offset : ℕ)
+        → Line (stepped (stepped (unit short blank blank) (command false 0x0A DIRW) .unit) (cycle false true false 8 0 offset) .answer)
+        (stepped (stepped (unit long blank blank) (command false 0x0A DIRW) .unit) (cycle false true false 8 0 offset) .answer)
+    told claim offset =
+        claim (unit short blank blank) (unit long blank blank) (turnThenRead offset)
+        (unit-undamaged _ _ _) (unit-undamaged _ _ _) (unit-loosened long-wider (wider-refl _))
+        (refl, (refl, refl)) .1 .0

@@ -13,7 +13,7 @@ use Rattle.rules.specs.declared.Kind.the-variants.{Refused}
 use Rattle.rules.specs.declared.Registers.{Registers}
 use Rattle.theorems_runs.specs.Answers.{kindBy}
 use Rattle.theorems_runs.specs.Refusal.{numberIn, NumbersExactly, RefusalLeaves}
-use Rattle.theorems_runs.proofs.Answers.{Judged, refuses, accepts, kind-exactly, says}
+use Rattle.theorems_runs.proofs.Answers.{Judged, refuses, accepts, kind-exactly, says, says-kind}
 
 number-of : (o : Option ℕ) (r a k m w t p : Bool) → numberIn (kindBy o r a k m w t p) ≡ o
 number-of (some n) r a k m w t p = refl
@@ -38,5 +38,5 @@ refusal-of n (accepts e) q =
 pub refusal-leaves : RefusalLeaves
 unfolding refused plain after changed
 refusal-leaves u c n k =
-    let e : decision u c ≡ refused n (u .registers) = refusal-of n (says u c .left) (sym (says u c .kind) ∙ k) in
-    record { address = rw e; sup = rw e; trap = rw e; drives = rw e; byte = rw e; unit = rw e }
+    let e : decision u c ≡ refused n (u .registers) = refusal-of n (says u c .left) (sym (says-kind u c) ∙ k) in
+    record { address = rw e; sup = rw e; trap = rw e; drives = rw e; byte = rw e; distance = rw e; unit = rw e }

@@ -94,7 +94,7 @@ CoversWhere Wide =
 -- by `Wider` it is demand 3 itself
 right-covers : CoversWhere Right
 right-covers a b cs u v r t f =
-    demand-3 a b cs u v
+    demand-3 .0 a b cs u v
     (record {
       registers = r;
       table = λ i s. record { base = t i s .0; direction = t i s .1; rights = t i s .2; up = t i s .3; down = t i s .4 };

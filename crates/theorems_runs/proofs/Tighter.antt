@@ -5,22 +5,42 @@ use mathlib.Core.Bool.{Bool, true, false, cond, _||_}
 use mathlib.Core.List.{List, [], _∷_}
 use Rattle.rules.specs.Runs.{answers}
 use Rattle.rules.specs.Step.{stepped}
+use Rattle.rules.specs.declared.Answer.{Answer}
 use Rattle.rules.specs.declared.Cycle.{Cycle}
 use Rattle.rules.specs.declared.Control.{Control}
 use Rattle.rules.specs.declared.Unit.{Unit}
 use Rattle.theorems_runs.specs.Answers.{abortedFetch}
-use Rattle.theorems_runs.specs.Narrower.{WritesNone, AlongBoth, NarrowerKept, InStepKept, NarrowerCovers, WritesCover}
+use Rattle.theorems_runs.specs.Narrower.{WritesNone, Narrower, AlongBoth, NarrowerKept, InStepKept, NarrowerCovers, WritesCover}
 use Rattle.theorems_runs.specs.Sequences.{Every, Both}
-use Rattle.theorems_runs.specs.Tighter.{Covers, inFirst, before, NoDescriptorWrite, TighterCovers, Demand3, StopInFirst}
+use Rattle.theorems_runs.specs.Tighter.{Loosened, Covers, EachLine, inFirst, before, NoDescriptorWrite, TighterBy, Demand3, StopInFirst}
+use Rattle.theorems_runs.specs.Undamaged.{Undamaged}
 use Rattle.theorems_runs.specs.Unstopped.{ofAborted, CoversBut}
 use Rattle.theorems_runs.proofs.Tests.{or-l}
 use Rattle.theorems_runs.proofs.Unstopped.{Level, level, step-level, hold-step, covers-unstopped}
-use Rattle.theorems_runs.proofs.Unstopped.{Abreast, abreast, step-abreast, covers-with-writes}
+use Rattle.theorems_runs.proofs.Unstopped.{Abreast, abreast, step-abreast, covers-with-writes, nearer-unstopped}
 
 none : (cs : List Cycle) (a b : Unit) → Every NoDescriptorWrite cs → AlongBoth WritesNone a b cs
 unfolding AlongBoth
 none [] a b f = refl
 none (c ∷ cs) a b f = (f .0, none cs (stepped a c .unit) (stepped b c .unit) (f .1))
+
+-- a line that holds throughout holds up to any stop
+cut-line : {Line : Answer → Answer → Type 0} (stop : Unit → Unit → Cycle → Bool) (cs : List Cycle) (a b : Unit)
+    → Both Line (answers a cs) (answers b cs) → Both Line (answers a (before stop a b cs)) (answers b (before stop a b cs))
+unfolding answers before
+cut-line stop [] a b h = refl
+cut-line {Line} stop (c ∷ cs) a b h = go (stop a b c)
+  where
+    rest : List Cycle
+    rest = before stop (stepped a c .unit) (stepped b c .unit) cs
+
+    go : (t : Bool) → Both Line (answers a (cond t [] (c ∷ rest))) (answers b (cond t [] (c ∷ rest)))
+    go true = refl
+    go false = (h .0, cut-line stop cs (stepped a c .unit) (stepped b c .unit) (h .1))
+
+narrower : {a b : Unit} → Undamaged a → Undamaged b → Loosened a b → Narrower a b
+narrower sa sb l =
+    record { first = sa; second = sb; table = l .table; mr = ap (λ r. r .control .mr) (l .registers); hold = rw (l .registers) (λ z. z) }
 
 -- any stop that comes before an aborted fetch in the first unit
 module _ (stop : Unit → Unit → Cycle → Bool) (stops : (a b : Unit) (c : Cycle) → stop a b c ≡ false → abortedFetch a c ≡ false) where
@@ -44,18 +64,17 @@ module _ (stop : Unit → Unit → Cycle → Bool) (stops : (a b : Unit) (c : Cy
           let x : (abortedFetch a c || false) ≡ false = ap (λ (t : Bool). t || false) (stops a b c e) in
           (record { address = h .0; sup = h .1 x }, ih x)
 
-  tighter-covers : TighterCovers NoDescriptorWrite stop
-  tighter-covers a b cs sa sb l f =
-      cut cs a b
-      (covers-unstopped a b cs
-      (record { first = sa; second = sb; table = l .table; mr = ap (λ r. r .control .mr) (l .registers); hold = rw (l .registers) (λ z. z) })
-      (none cs a b f))
+  tighter : EachLine λ Line. TighterBy Line NoDescriptorWrite stop
+  tighter = (
+    λ a b cs sa sb l f. cut cs a b (covers-unstopped a b cs (narrower sa sb l) (none cs a b f)),
+    λ a b cs sa sb l f. cut-line stop cs a b (nearer-unstopped .0 a b (narrower sa sb l) cs (none cs a b f)),
+  )
 
 pub demand-3 : Demand3
-demand-3 = tighter-covers _ λ a b c. or-l (abortedFetch a c) (abortedFetch b c)
+demand-3 = tighter _ λ a b c. or-l (abortedFetch a c) (abortedFetch b c)
 
 pub stop-in-first : StopInFirst
-stop-in-first = tighter-covers _ λ a b c e. e
+stop-in-first = tighter _ λ a b c e. e
 
 -- From a weaker start
 
@@ -81,7 +100,13 @@ in-step-kept a b c h f x =
     }
 
 pub narrower-covers : NarrowerCovers
-narrower-covers a b cs h f = cut inFirst (λ a b c e. e) cs a b (covers-unstopped a b cs h f)
+narrower-covers = (
+  λ a b cs h f. cut inFirst (λ a b c e. e) cs a b (covers-unstopped a b cs h f),
+  λ a b cs h f. cut-line inFirst cs a b (nearer-unstopped .0 a b h cs f),
+)
 
 pub writes-cover : WritesCover
-writes-cover a b cs h f = cut inFirst (λ a b c e. e) cs a b (covers-with-writes a b cs h f)
+writes-cover = (
+  λ a b cs h f. cut inFirst (λ a b c e. e) cs a b (covers-with-writes a b cs h f),
+  λ a b cs h f. cut-line inFirst cs a b (nearer-unstopped .1 a b h cs f),
+)

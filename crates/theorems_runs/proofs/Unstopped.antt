@@ -15,6 +15,7 @@ use Rattle.rules.specs.Masks.{CPUI, DMAI, DIRW, TRNS}
 use Rattle.rules.specs.Refusals.{damaged, outOfRange}
 use Rattle.rules.specs.Replies.{off}
 use Rattle.rules.specs.Codes.{commandOf}
+use Rattle.rules.specs.Runs.{answers}
 use Rattle.rules.specs.Step.{after, stepped}
 use Rattle.rules.specs.declared.Action.the-variants.{SoftwareReset, ClearVtr, ClearSww, ClearFatl, SetCpui, SetDmai}
 use Rattle.rules.specs.declared.Command.{Command}
@@ -24,25 +25,25 @@ use Rattle.rules.specs.declared.Cycle.{Cycle}
 use Rattle.rules.specs.declared.Descriptor.{Descriptor}
 use Rattle.rules.specs.declared.Address.{Address}
 use Rattle.rules.specs.declared.Unit.{Unit}
-use Rattle.theorems_runs.specs.Answers.{awaited, abortedFetch, driven, segmentOf, breaks, violation, heldBack, SameMr}
+use Rattle.theorems_runs.specs.Answers.{awaited, abortedFetch, driven, segmentOf, breaks, translated, violation, heldBack, SameMr}
 use Rattle.theorems_runs.specs.Cycles.{selectedCommand, acknowledge, memoryCycle, fetches, softwareReset, passingConditions}
 use Rattle.theorems_runs.specs.Cycles.{translationConditions, descriptorWrite, writes}
 use Rattle.theorems_runs.specs.Descriptors.{descriptor, writesTo, writesHere, byteAt}
 use Rattle.theorems_runs.specs.Hold.{endsHold, holds, cpuViolation}
 use Rattle.theorems_runs.specs.Narrower.{WiderTable, HoldsFirst, Narrower, NarrowerInStep, TurnsNone, WritesNone, AlongBoth}
 use Rattle.theorems_runs.specs.Refusal.{admitted}
-use Rattle.theorems_runs.specs.Sequences.{_⇒_}
-use Rattle.theorems_runs.specs.Tighter.{Wider}
+use Rattle.theorems_runs.specs.Sequences.{_⇒_, Both}
+use Rattle.theorems_runs.specs.Tighter.{Wider, Nearer}
 use Rattle.theorems_runs.specs.Undamaged.{Undamaged}
-use Rattle.theorems_runs.specs.Unstopped.{MrExactly, ofAborted, CoversBut, CoversUnstopped, CoversWithWrites}
-use Rattle.theorems_runs.proofs.Answers.{address-exactly, sup-exactly}
+use Rattle.theorems_runs.specs.Unstopped.{MrExactly, ofAborted, CoversBut, CoversUnstopped, CoversWithWrites, NearerUnstopped}
+use Rattle.theorems_runs.proofs.Answers.{address-exactly, sup-exactly, distance-exactly, translates}
 use Rattle.theorems_runs.proofs.Codes.{isActOf, isMr, software-reset-code, mr-code}
 use Rattle.theorems_runs.proofs.Descriptors.{byteIn, descriptors-stay, write-replaces, set-all-sets}
 use Rattle.theorems_runs.proofs.Hold.{hold-exactly}
 use Rattle.theorems_runs.proofs.Registers.{commandControl, controlBy, leaves}
 use Rattle.theorems_runs.proofs.Tests.{and-l, and-r, or-l, or-r, or-⇒, and-⇒, differs}
 use Rattle.theorems_runs.proofs.Undamaged.{undamaged-after}
-use Rattle.theorems_runs.proofs.Wider.{same-wider, raised-wider, replaced-wider, breaks-⇒}
+use Rattle.theorems_runs.proofs.Wider.{same-wider, raised-wider, replaced-wider, breaks-⇒, nearer-blocks}
 
 -- MR
 
@@ -192,6 +193,13 @@ module _ (a b : Unit) (c : Cycle) (h : Level a b) where
           go : (d w e : Bool) → w ≡ false → (d && w && e) ≡ false
           go true w e q = rw q
           go false w e q = refl
+
+  -- ticket 5's line, at one cycle
+  pub nearer-step : Nearer (stepped a c .answer) (stepped b c .answer)
+  nearer-step p q =
+      let x : translated a c ≡ true = translates a c p in
+      let y : translated b c ≡ true = translates b c q in
+      rw (distance-exactly a c, x, distance-exactly b c, y) (nearer-blocks (c .offset) wider-segment)
 
 -- SUP and hold
 
@@ -357,6 +365,24 @@ module _ (a b : Unit) (c : Cycle) (h : Abreast a b) (turns : TurnsNone a b c) wh
             };
         control = same-control;
       }
+
+-- Ticket 5's line
+
+module _ (Related : Unit → Unit → Type 0) (May : Unit → Unit → Cycle → Type 0) (levels : (a b : Unit) → Related a b → Level a b)
+    (step : (a b : Unit) (c : Cycle) → Related a b → May a b c → Related (stepped a c .unit) (stepped b c .unit)) where
+  nearer : (cs : List Cycle) (a b : Unit) → Related a b → AlongBoth May a b cs → Both Nearer (answers a cs) (answers b cs)
+  unfolding answers AlongBoth
+  nearer [] a b r f = refl
+  nearer (c ∷ cs) a b r f = (
+    nearer-step a b c (levels a b r),
+    nearer cs (stepped a c .unit) (stepped b c .unit) (step a b c r (f .0)) (f .1),
+  )
+
+pub nearer-unstopped : NearerUnstopped
+nearer-unstopped = (
+  λ a b n cs f. nearer Level WritesNone (λ a b l. l) step-level cs a b (level n) f,
+  λ a b n cs f. nearer Abreast TurnsNone (λ a b h. h .levels) step-abreast cs a b (abreast n) f,
+)
 
 pub covers-with-writes : CoversWithWrites
 covers-with-writes a b cs n f =

@@ -2,7 +2,7 @@
 -- Assumes nothing.
 use mathlib.Core.Path.{_≡_, refl, sym, _∙_, ap}
 use mathlib.Core.Bool.{Bool, true, false, cond, not, _&&_, _||_, Bool·beq, or-false, true≢false, false≢true}
-use Prim.Native.Nat.{ℕ, _+_, _*_, _/_, _%_, _^_, _≤_, _<_}
+use Prim.Native.Nat.{ℕ, _+_, _*_, _-_, _/_, _%_, _^_, _≤_, _<_}
 use native.Mathlib.Nat.{le-refl}
 use native.Mathlib.Omega.{arith}
 use lib.Dec.{eqb, ltb}
@@ -15,7 +15,7 @@ use Rattle.rules.specs.Memory.{touched}
 use Rattle.rules.specs.Step.{withFlags}
 use Rattle.rules.specs.declared.Cycle.{Cycle}
 use Rattle.rules.specs.declared.Descriptor.{Descriptor}
-use Rattle.theorems_runs.specs.Answers.{breaks}
+use Rattle.theorems_runs.specs.Answers.{breaks, blocksLeft}
 use Rattle.theorems_runs.specs.Descriptors.{SameRules}
 use Rattle.theorems_runs.specs.Sequences.{_⇒_}
 use Rattle.theorems_runs.specs.Tighter.{Wider}
@@ -49,6 +49,28 @@ breaks-⇒ {x} {y} c w =
     (and-⇒ _ _ (write c) (w .rights .0)) (and-⇒ _ _ (c .normal) (w .rights .1 .0)) (and-⇒ _ _ (not (program c)) (w .rights .1 .1 .1 .0))
     (beyond-⇒ (has a DIRW) (has b DIRW) (x .limit) (y .limit) (c .offset) (w .direction) (w .up) (w .down))
     (and-⇒ _ _ (cpu c) (w .rights .1 .1 .0)) (and-⇒ _ _ (c .dma) (w .rights .1 .1 .1 .1 .0))
+
+-- in one direction the tighter is as near to its edge, or nearer
+pub nearer-blocks : {x y : Descriptor} (o : ℕ) → Wider x y → blocksLeft x o ≤ blocksLeft y o
+nearer-blocks {x} {y} o w = go (has (x .attributes) DIRW) (has (y .attributes) DIRW) (w .direction) (w .up) (w .down)
+  where
+    left : (down : Bool) → (limit : ℕ) → ℕ
+    left down limit = cond (cond down (ltb o limit) (ltb limit o)) 0 (cond down (o - limit) (limit - o))
+
+    -- past the limit the difference is 0 as well
+    up : (l : ℕ) → left false l ≡ l - o
+    unfolding left
+    up l = ?
+
+    down : (l : ℕ) → left true l ≡ o - l
+    unfolding left
+    down l = ?
+
+    go : (t s : Bool) → t ≡ s → (t ≡ false → x .limit ≤ y .limit) → (t ≡ true → y .limit ≤ x .limit) → left t (x .limit) ≤ left s (y .limit)
+    go false false q f g = rw (up (x .limit), up (y .limit)) (omega (arith, f refl))
+    go true true q f g = rw (down (x .limit), down (y .limit)) (omega (arith, g refl))
+    go false true q f g = absurd (false≢true q)
+    go true false q f g = absurd (true≢false q)
 
 -- REF and CHG
 

@@ -1,9 +1,9 @@
--- What a cycle answers, as one equation each, of every unit and every cycle: its kind, the address that is driven, SUP.
+-- What a cycle answers, as one equation each, of every unit and every cycle: its kind, the address that is driven, SUP, the distance.
 -- Assumes nothing.
 use mathlib.Core.Path.{_≡_}
 use mathlib.Core.Bool.{Bool, true, false, cond, not, _&&_, _||_}
 use mathlib.Core.Option.{Option, none, some}
-use Prim.Native.Nat.{ℕ, _+_, _*_, _%_}
+use Prim.Native.Nat.{ℕ, _+_, _*_, _-_, _%_}
 use lib.Dec.{eqb, ltb}
 use lib.ListN.{getD}
 use Rattle.rules.specs.Bus.{cpu, write}
@@ -97,13 +97,16 @@ AddressExactly = (u : Unit) (c : Cycle) → stepped u c .answer .address ≡ con
 
 -- SUP
 
--- "RD and a write; SYS and normal mode; EXC and status neither %C nor %D"; "length: offset byte above limit with DIRW clear, below limit with
--- DIRW set"; "CPUI for the CPU; DMAI for DMA"
+-- "length: offset byte above limit with DIRW clear, below limit with DIRW set": of a block of the segment
+abbrev pub beyondLimit : Descriptor → (block : ℕ) → Bool
+beyondLimit d o = cond (has (d .attributes) DIRW) (ltb o (d .limit)) (ltb (d .limit) o)
+
+-- "RD and a write; SYS and normal mode; EXC and status neither %C nor %D"; length; "CPUI for the CPU; DMAI for DMA"
 abbrev pub breaks : Descriptor → Cycle → Bool
 breaks d c =
     has (d .attributes) RD && write c || has (d .attributes) SYS && c .normal
     || has (d .attributes) EXC && not (eqb (c .status) 0xC || eqb (c .status) 0xD)
-    || cond (has (d .attributes) DIRW) (ltb (c .offset) (d .limit)) (ltb (d .limit) (c .offset))
+    || beyondLimit d (c .offset)
     || has (d .attributes) CPUI && cpu c || has (d .attributes) DMAI && c .dma
 
 -- an unrefused memory cycle, no aborted fetch, that meets the translation conditions
@@ -122,6 +125,17 @@ heldBack u c = admitted u c && memoryCycle c && cpu c && not (fetches c) && u .r
 -- fetch while hold stood. Why hold stands is in `Hold`.
 abbrev pub SupExactly : Type 0
 SupExactly = (u : Unit) (c : Cycle) → stepped u c .answer .sup ≡ (violation u c || heldBack u c)
+
+-- Distance
+
+-- ticket 5: "limit less offset byte, or offset byte less limit with DIRW, and 0 in a length violation"
+abbrev pub blocksLeft : Descriptor → (block : ℕ) → ℕ
+blocksLeft d o = cond (beyondLimit d o) 0 (cond (has (d .attributes) DIRW) (o - d .limit) (d .limit - o))
+
+-- CLAIM: "Every answer of a translated cycle that is not an aborted fetch carries it; all other answers carry 0": of CPU and DMA, in a violation
+-- and under SUP too. Neither hold nor any protection flag has a part in it.
+abbrev pub DistanceExactly : Type 0
+DistanceExactly = (u : Unit) (c : Cycle) → stepped u c .answer .distance ≡ cond (translated u c) (blocksLeft (segmentOf u c) (c .offset)) 0
 
 -- Two units
 

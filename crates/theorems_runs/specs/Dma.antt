@@ -56,6 +56,7 @@ pub record SameButTrap (x y : Answer) : Type 0 where
   pub sup : x .sup ≡ y .sup
   pub drives : x .drives ≡ y .drives
   pub byte : x .byte ≡ y .byte
+  pub distance : x .distance ≡ y .distance
 
 abbrev pub Sound : Unit → Type 0
 Sound u = damaged (u .registers) ≡ false

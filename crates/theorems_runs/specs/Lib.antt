@@ -18,6 +18,7 @@ pub mod Notes
 pub mod Tighter
 pub mod Narrower
 pub mod Unstopped
+pub mod Distance
 pub mod Others
 pub mod Apart
 pub mod Exchange

@@ -9,6 +9,7 @@ use Rattle.rules.specs.Flags.{has}
 use Rattle.rules.specs.Masks.{DIRW}
 use Rattle.rules.specs.Runs.{answers}
 use Rattle.rules.specs.Step.{stepped}
+use Rattle.rules.specs.declared.Answer.{Answer}
 use Rattle.rules.specs.declared.Cycle.{Cycle}
 use Rattle.rules.specs.declared.Unit.{Unit}
 use Rattle.theorems_runs.specs.Answers.{SameMr}
@@ -16,7 +17,7 @@ use Rattle.theorems_runs.specs.Cycles.{descriptorWrite}
 use Rattle.theorems_runs.specs.Descriptors.{descriptor}
 use Rattle.theorems_runs.specs.Hold.{holds}
 use Rattle.theorems_runs.specs.Sequences.{_⇒_, Both}
-use Rattle.theorems_runs.specs.Tighter.{Wider, Covers, inFirst, nowhere, before, NoDescriptorWrite}
+use Rattle.theorems_runs.specs.Tighter.{Wider, Covers, EachLine, inFirst, nowhere, before, NoDescriptorWrite}
 use Rattle.theorems_runs.specs.Undamaged.{Undamaged}
 
 -- each descriptor of b is as wide as a's or wider
@@ -70,13 +71,17 @@ abbrev pub KeptUpTo : (stop : Unit → Unit → Cycle → Bool) → (May : Unit 
 KeptUpTo stop May Related =
     (a b : Unit) (c : Cycle) → Related a b → May a b c → stop a b c ≡ false → Related (stepped a c .unit) (stepped b c .unit)
 
--- demand 3's conclusion up to the stop, with the start and the cycles that may come left open
-abbrev pub CoversFrom : (May : Unit → Unit → Cycle → Type 0) → (Start : Unit → Unit → Type 0) → Type 0
-CoversFrom May Start =
+-- demand 3's conclusion up to the stop, with its line, the cycles that may come and the start left open
+abbrev pub FromBy : (Line : Answer → Answer → Type 0) → (May : Unit → Unit → Cycle → Type 0) → (Start : Unit → Unit → Type 0) → Type 0
+FromBy Line May Start =
     (a b : Unit) (cs : List Cycle)
     → Start a b
     → AlongBoth May a b cs
-    → Both Covers (answers a (before inFirst a b cs)) (answers b (before inFirst a b cs))
+    → Both Line (answers a (before inFirst a b cs)) (answers b (before inFirst a b cs))
+
+-- the addresses and SUP
+abbrev pub CoversFrom : (May : Unit → Unit → Cycle → Type 0) → (Start : Unit → Unit → Type 0) → Type 0
+CoversFrom May Start = FromBy Covers May Start
 
 -- CLAIM: without writes to descriptors every cycle up to the stop, an aborted fetch of the first unit, keeps the relation, SAR and DSCR free.
 abbrev pub NarrowerKept : Type 0
@@ -86,13 +91,13 @@ NarrowerKept = KeptUpTo inFirst WritesNone Narrower
 abbrev pub InStepKept : Type 0
 InStepKept = KeptUpTo inFirst TurnsNone NarrowerInStep
 
--- CLAIM: so the tables tightened, MR equal and hold ordered are enough for demand 3's conclusion.
+-- CLAIM: so the tables tightened, MR equal and hold ordered are enough for demand 3's conclusion, both its lines.
 abbrev pub NarrowerCovers : Type 0
-NarrowerCovers = CoversFrom WritesNone Narrower
+NarrowerCovers = EachLine λ Line. FromBy Line WritesNone Narrower
 
 -- CLAIM: and where writes come too, SAR and DSCR equal beside them.
 abbrev pub WritesCover : Type 0
-WritesCover = CoversFrom TurnsNone NarrowerInStep
+WritesCover = EachLine λ Line. FromBy Line TurnsNone NarrowerInStep
 
 -- What can't be left out
 

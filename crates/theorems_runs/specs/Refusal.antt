@@ -55,13 +55,14 @@ abbrev pub NumbersExactly : Type 0
 NumbersExactly = (u : Unit) (c : Cycle) → numberIn (stepped u c .answer .kind) ≡ refusalOf u c
 
 -- "address and data not driven, SUP off, trap line as the request stood; unit unchanged"; "An address or data byte that isn't driven
--- is marked so and has the value 0."
+-- is marked so and has the value 0."; ticket 5: it carries no distance
 pub record AsItStood (u : Unit) (s : Stepped) : Type 0 where
   pub address : s .answer .address ≡ off
   pub sup : s .answer .sup ≡ false
   pub trap : s .answer .trap ≡ u .registers .notes .request
   pub drives : s .answer .drives ≡ false
   pub byte : s .answer .byte ≡ 0
+  pub distance : s .answer .distance ≡ 0
   pub unit : s .unit ≡ u
 
 -- CLAIM: a refusal leaves all as it stood, in every unit, damaged or not.

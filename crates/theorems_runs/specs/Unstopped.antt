@@ -7,7 +7,7 @@ use Prim.Native.Nat.{ℕ}
 use lib.Dec.{eqb}
 use Rattle.rules.specs.Bus.{write}
 use Rattle.rules.specs.Refusals.{outOfRange}
-use Rattle.rules.specs.Runs.{final}
+use Rattle.rules.specs.Runs.{answers, final}
 use Rattle.rules.specs.Step.{stepped}
 use Rattle.rules.specs.declared.Cycle.{Cycle}
 use Rattle.rules.specs.declared.Unit.{Unit}
@@ -16,7 +16,8 @@ use Rattle.theorems_runs.specs.Cycles.{selectedCommand, softwareReset, o
 use Rattle.theorems_runs.specs.Hold.{endsHold}
 use Rattle.theorems_runs.specs.Narrower.{WiderTable, Narrower, SameSar, SameDscr, NarrowerInStep, TurnsNone, WritesNone, AlongBoth}
 use Rattle.theorems_runs.specs.Refusal.{admitted}
-use Rattle.theorems_runs.specs.Sequences.{_⇒_, Every}
+use Rattle.theorems_runs.specs.Sequences.{_⇒_, Every, Both}
+use Rattle.theorems_runs.specs.Tighter.{Nearer}
 use Rattle.theorems_runs.specs.Undamaged.{Undamaged}
 
 -- MR after a cycle: "MR becomes %80 if select is on, else 0" (reset), "Software reset clears MR", and a write of %00 sets it, each unrefused
@@ -60,6 +61,16 @@ InstructionExcepted = (UnstoppedBut (λ so a c. false) → ⊥) × (UnstoppedBut
 abbrev pub CoversWithWrites : Type 0
 CoversWithWrites = (a b : Unit) (cs : List Cycle) → NarrowerInStep a b → AlongBoth TurnsNone a b cs → CoversBut ofAborted false a b cs
 
+-- ticket 5's line at every cycle, with no stop and none excepted, whatever cycles come of those that may
+abbrev pub NearerThroughout : (May : Unit → Unit → Cycle → Type 0) → Unit → Unit → Type 0
+NearerThroughout May a b = (cs : List Cycle) → AlongBoth May a b cs → Both Nearer (answers a cs) (answers b cs)
+
+-- CLAIM: the line on the distance needs neither the stop nor an exception: with no writes of %08 to %0F; and with those that turn no descriptor
+-- whose limits differ.
+abbrev pub NearerUnstopped : Type 0
+NearerUnstopped =
+    ((a b : Unit) → Narrower a b → NearerThroughout WritesNone a b) × ((a b : Unit) → NarrowerInStep a b → NearerThroughout TurnsNone a b)
+
 -- In a running system
 
 -- an unrefused selected CPU write that programs the table: SAR %01, %08 to %0F, DSCR %20
@@ -95,6 +106,12 @@ abbrev pub NarrowingOpensNothing : Type 0
 NarrowingOpensNothing =
     AfterWrites TableWrite WiderTable (OpensNothing WritesNone)
     × AfterWrites TableWrite (λ a b. WiderTable a b × SameSar a b × SameDscr a b) (OpensNothing TurnsNone)
+
+-- CLAIM: and every segment is as near to its edge as it would be without it, or nearer, at every cycle that both would translate.
+abbrev pub NarrowingNears : Type 0
+NarrowingNears =
+    AfterWrites TableWrite WiderTable (NearerThroughout WritesNone)
+    × AfterWrites TableWrite (λ a b. WiderTable a b × SameSar a b × SameDscr a b) (NearerThroughout TurnsNone)
 
 -- CLAIM: neither can be left out: that only such writes come, and that they leave every descriptor as it was or tighter.
 abbrev pub NarrowedNeeds : Type 0

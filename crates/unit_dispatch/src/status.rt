@@ -57,6 +57,7 @@ fn acknowledged(r: Registers) -> Decision
             trap: false,
             drives: r.control.mr & Unit::MSEN != 0,
             byte: acknowledge_byte(r),
+            distance: 0,
         },
         registers: quieted(r),
         change: Change::Keep,

@@ -1,4 +1,4 @@
--- An answer in six bytes, and answers one after another.
+-- An answer in seven bytes, and answers one after another.
 use mathlib.Core.List.{List, [], _∷_, _++_}
 use Prim.Native.Nat.{ℕ}
 use Rattle.rules.specs.Flags.{with, flagIf}
@@ -26,8 +26,11 @@ flagsAt = 4
 abbrev pub dataByteAt : ℕ
 dataByteAt = 5
 
+abbrev pub distanceAt : ℕ
+distanceAt = 6
+
 abbrev pub width : ℕ
-width = 6
+width = 7
 
 -- the flags' masks: the address is driven, SUP, the trap line, the data byte is driven
 abbrev pub ADDRESS : ℕ
@@ -53,10 +56,10 @@ flagsOf a =
     (flagIf (a .trap) TRAP))
     (flagIf (a .drives) DRIVES)
 
--- the kind's letter, the number of a refusal, the address lines (high byte first), the flags, the data byte
+-- the kind's letter, the number of a refusal, the address lines (high byte first), the flags, the data byte, the distance
 unfoldable pub packed : Answer → List ℕ
 packed a =
-    letterOf (a .kind) ∷ numberOf (a .kind) ∷ highOf (a .address .block) ∷ lowOf (a .address .block) ∷ flagsOf a ∷ a .byte ∷ []
+    letterOf (a .kind) ∷ numberOf (a .kind) ∷ highOf (a .address .block) ∷ lowOf (a .address .block) ∷ flagsOf a ∷ a .byte ∷ a .distance ∷ []
 
 -- answers one after another
 unfoldable pub packedAll : List Answer → List ℕ

@@ -8,7 +8,8 @@ use rules::Answer;
 use rules_flags::flag_if;
 use unit_stores::BYTE_VALUES;
 
-// What stands where: the kind's letter, the number of a refusal, the address lines, the flags, the data byte; and the bytes of an answer.
+// What stands where: the kind's letter, the number of a refusal, the address lines, the flags, the data byte, the distance; and the
+// bytes of an answer.
 pub const LETTER_AT: usize = 0;
 
 pub const NUMBER_AT: usize = 1;
@@ -21,7 +22,9 @@ pub const FLAGS_AT: usize = 4;
 
 pub const DATA_BYTE_AT: usize = 5;
 
-pub const BYTES: usize = 6;
+pub const DISTANCE_AT: usize = 6;
+
+pub const BYTES: usize = 7;
 
 // The flags: the address is driven, SUP, the trap line, the data byte is driven.
 
@@ -59,4 +62,5 @@ pub fn put(out: &mut [u8], at: usize, a: Answer)
     out[at + LOW_AT] = (block % BYTE_VALUES) as u8;
     out[at + FLAGS_AT] = flags;
     out[at + DATA_BYTE_AT] = a.byte;
+    out[at + DISTANCE_AT] = a.distance;
 }

@@ -1,6 +1,6 @@
 //! `mmurun-witness`: document 01's `mmurun` on standard input and output.
 //! With `--packed N` it runs the trace N times from power-on and writes the
-//! answers of the last run in six bytes each: what the benchmark times.
+//! answers of the last run in seven bytes each: what the benchmark times.
 
 use std::hint::black_box;
 use std::io::{self, Read, Write};

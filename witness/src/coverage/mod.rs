@@ -3,6 +3,7 @@
 
 pub mod command_rows;
 pub mod cycle_rows;
+pub mod distance_rows;
 pub mod event;
 pub mod memory_rows;
 pub mod recording_rows;
@@ -62,6 +63,7 @@ impl Table {
         rows.extend(cycle_rows::rows());
         rows.extend(command_rows::rows());
         rows.extend(memory_rows::rows());
+        rows.extend(distance_rows::rows());
         rows.extend(recording_rows::rows());
         Table { rows }
     }
@@ -80,11 +82,15 @@ impl Table {
         for cycle in Document01::cycles(trace) {
             let before = unit.clone();
             let answer = Document01::step(&mut unit, &cycle);
-            let event = Event::new(before, cycle, answer, &unit);
-            for row in &mut self.rows {
-                if let Met::Record(met) = &row.met {
-                    row.count += u64::from(met(&event));
-                }
+            self.see(&Event::new(before, cycle, answer, &unit));
+        }
+    }
+
+    /// Counts what one cycle meets.
+    pub fn see(&mut self, event: &Event) {
+        for row in &mut self.rows {
+            if let Met::Record(met) = &row.met {
+                row.count += u64::from(met(event));
             }
         }
     }

@@ -54,7 +54,7 @@ impl Bus {
             read,
             normal: self.random.once_in(8),
             select: true,
-            segment: self.random.byte() % 128,
+            segment: self.segment(),
             offset: code,
             data,
             ..Cycle::default()
@@ -78,12 +78,22 @@ impl Bus {
             read: !self.random.once_in(5),
             normal: self.random.once_in(5),
             select: self.random.once_in(5),
-            segment: self.random.byte() % 128,
+            segment: self.segment(),
             offset: self.random.byte(),
             data: self.random.byte(),
             ..Cycle::default()
         };
         self.push(cycle);
+    }
+
+    /// Mostly one of the story's segments.
+    pub fn segment(&mut self) -> u8 {
+        if self.random.once_in(12) {
+            self.random.byte() % 128
+        } else {
+            let segments = self.segments.clone();
+            self.random.pick(&segments)
+        }
     }
 
     /// An offset at or beside the segment's limit, or at an end.
@@ -99,18 +109,13 @@ impl Bus {
         }
     }
 
-    /// Any memory cycle, mostly in the story's segments.
+    /// Any memory cycle.
     pub fn access(&mut self) -> Cycle {
-        let segment = if self.random.once_in(12) {
-            self.random.byte() % 128
-        } else {
-            let segments = self.segments.clone();
-            self.random.pick(&segments)
-        };
+        let segment = self.segment();
         Cycle {
             status: self
                 .random
-                .pick(&[0x8, 0x8, 0x8, 0x9, 0x9, 0x9, 0xA, 0xB, 0xB, 0xC, 0xD]),
+                .pick(&[0x8, 0x8, 0x8, 0x9, 0x9, 0x9, 0xA, 0xB, 0xB, 0xB, 0xC, 0xD]),
             read: self.random.coin(),
             normal: self.random.coin(),
             dma: self.random.once_in(8),

@@ -17,7 +17,7 @@ pub fn low(random: &mut Random) -> u8 {
 
 /// What leaves the low byte, unless the VTR has been cleared; it stands here as
 /// often as it should come.
-const LEAVES: [fn(&mut Bus); 16] = [
+const LEAVES: [fn(&mut Bus); 17] = [
     fault,
     fault,
     later_fault,
@@ -29,6 +29,7 @@ const LEAVES: [fn(&mut Bus); 16] = [
     last_block,
     dma_violation,
     |bus| bus.acknowledge(),
+    clear,
     clear,
     read,
     read,

@@ -1,6 +1,7 @@
 //! Seeded captures and step scripts that reach deep states of a unit.
 
 pub mod bus;
+pub mod edge;
 pub mod low;
 pub mod malformed;
 pub mod mixes;

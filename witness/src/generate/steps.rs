@@ -9,15 +9,16 @@ use crate::script::Registers;
 use crate::unit::{attribute, mode, violation, Descriptor, Unit};
 
 use super::bus::{violates, warns, warns_at_system_stack, Bus};
+use super::edge::approach;
 use super::low::{kept, low};
 use super::random::Random;
 use super::story::story;
 use super::{CASES, SCRIPTS};
 
 /// A kind stands here as often as it should come. Two are damaged units, which
-/// go nowhere, so sane ones come twice.
+/// go nowhere, so sane ones come twice, once to go to the edges of segments.
 const KINDS: [&str; 8] = [
-    "sane", "orphan", "sane", "damaged", "range", "any", "story", "low",
+    "sane", "orphan", "edge", "damaged", "range", "any", "story", "low",
 ];
 
 /// The first case of a script: the only one that can leave its unit unsaid.
@@ -77,6 +78,11 @@ fn scene(mut random: Random, kind: &str) -> Scene {
     match kind {
         "low" => kept(&mut bus),
         _ => cycles(&mut bus, kind),
+    }
+    if kind == "edge" {
+        for _ in 0..3 {
+            approach(&mut bus);
+        }
     }
     Scene {
         unit,
@@ -138,10 +144,11 @@ fn table(bus: &mut Bus) -> Vec<u8> {
         .map(|_| bus.random.byte() % 64)
         .collect();
     for (place, &number) in hot.iter().enumerate() {
-        let flag = bus.random.pick(&[0, 0, attribute::DIRW]);
+        let flag = bus.random.pick(&[0, attribute::DIRW]);
+        let (small, any) = (bus.random.byte() % 4, bus.random.byte());
         bus.unit.table[usize::from(number)] = Descriptor {
             base: bus.random.word(),
-            limit: bus.random.byte() % 4,
+            limit: bus.random.pick(&[small, small, 0xFF - small, 0xFF, any]),
             attributes: match place {
                 0 => attribute::DIRW,
                 1 => flag,

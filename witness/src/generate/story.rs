@@ -3,6 +3,7 @@
 use crate::cycle::Cycle;
 
 use super::bus::Bus;
+use super::edge::approach;
 use super::programming::{
     every_command, inhibit_all, not_for_the_unit, ragged, reset, setup, software_reset,
     wrong_commands,
@@ -11,9 +12,10 @@ use super::random::Random;
 use super::scenes::{chaos, dma, fault, faults_in_service, without_translation, work};
 
 /// A scene stands here as often as it should come.
-const SCENES: [fn(&mut Bus); 24] = [
+const SCENES: [fn(&mut Bus); 25] = [
     work,
     work,
+    approach,
     fault,
     fault,
     fault,

@@ -4,16 +4,11 @@
 use std::collections::BTreeSet;
 
 use witness::coverage::event::Event;
-use witness::cycle::{Answer, Cycle, Kind};
-use witness::generate::steps::scripts;
-use witness::script::play;
-use witness::step::Step;
-use witness::unit::{attribute, violation, Unit};
-use witness::Document01;
+use witness::coverage::Row;
+use witness::cycle::{Cycle, Kind};
+use witness::unit::{attribute, violation};
 
-/// How often the scripts of a seed must meet each case.
-const ENOUGH: usize = 15;
-const SEEDS: [u64; 3] = [1, 7, 424_242];
+use crate::scripted::{each_cycle, meet_often, ENOUGH, SEEDS};
 
 type Case = (&'static str, fn(&Event) -> bool);
 
@@ -169,38 +164,13 @@ const UNREAD: &[Case] = &[
     }),
 ];
 
-/// Every cycle of the scripts of a seed, with the one before it.
-fn each_cycle(seed: u64, mut see: impl FnMut(&Event, Option<Cycle>)) {
-    for script in scripts(seed) {
-        let mut last = None;
-        let mut step = |unit: &mut Unit, cycle: &Cycle| -> Answer {
-            let before = unit.clone();
-            let answer = Document01::step(unit, cycle);
-            see(&Event::new(before, *cycle, answer, unit), last);
-            last = Some(*cycle);
-            answer
-        };
-        play(&script, Unit::power_on(), &mut step);
-    }
-}
-
-fn met(seed: u64, cases: &[Case]) {
-    let mut counts = vec![0; cases.len()];
-    each_cycle(seed, |event, _| {
-        for (count, (_, meets)) in counts.iter_mut().zip(cases) {
-            *count += usize::from(meets(event));
-        }
-    });
-    for (count, (name, _)) in counts.iter().zip(cases) {
-        assert!(*count >= ENOUGH, "seed {seed}: only {count}: {name}");
-    }
-}
-
 #[test]
 fn every_case_is_met_often() {
-    for seed in SEEDS {
-        met(seed, &[STORED, LEFT, COMMANDS, UNREAD].concat());
-    }
+    let cases = [STORED, LEFT, COMMANDS, UNREAD].concat();
+    meet_often(|| {
+        let rows = cases.iter().map(|&(name, meets)| Row::record(name, meets));
+        rows.collect()
+    });
 }
 
 #[test]
@@ -210,7 +180,7 @@ fn many_cycles_are_alike_but_for_the_low_byte() {
         each_cycle(seed, |event, last| {
             let (low, cycle) = (event.cycle.low, event.cycle);
             let twin = last.is_some_and(|last| last.low != low && Cycle { low, ..last } == cycle);
-            alike += usize::from(twin && event.is(Kind::Translated));
+            alike += u64::from(twin && event.is(Kind::Translated));
         });
         assert!(alike >= ENOUGH, "seed {seed}: only {alike}");
     }

@@ -1,5 +1,6 @@
 //! The tests of the witness, in one program.
 
+mod distance;
 mod exchange;
 mod generated;
 mod low;
@@ -10,4 +11,5 @@ mod refusals;
 mod rows;
 mod sample;
 mod script;
+mod scripted;
 mod segments;

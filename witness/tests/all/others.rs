@@ -33,6 +33,9 @@ const USUAL: &[Wanted] = &[
     ("translated in a pair that differs", |pair, turn| {
         is(turn, Kind::Translated) && pair.units[0] != pair.units[1]
     }),
+    ("translated with room left", |_, turn| {
+        turn.answers[0].distance != 0
+    }),
     ("marked", |pair, turn| {
         is(turn, Kind::Translated) && pair.units[0].table != turn.before.table
     }),

@@ -1,6 +1,6 @@
 //! Pairs of units that differ in nothing but descriptors outside a set, stepped
 //! by the same cycles, any at all that a rule allows: what the tests of tickets
-//! 2 and 12 run on. That of ticket 8 has pairs and cycles of its own.
+//! 2, 5 and 12 run on. That of ticket 8 has pairs and cycles of its own.
 
 use witness::commands::code::{CLEAR_VTR, MR, VTR};
 use witness::cycle::{Answer, Cycle, Kind};

@@ -117,7 +117,7 @@ fn each_register_is_damaged_exactly_above_its_bound() {
 }
 
 /// Any VTR and any notes in a unit that translates.
-fn standing(vtr: u8, notes: u8) -> Unit {
+pub fn standing(vtr: u8, notes: u8) -> Unit {
     let line = format!("U C0 00 00 {vtr:02X} 00 00 00 00 00 {notes:02X} 00");
     parse_unit(&line).expect("a unit's line")
 }

@@ -1,5 +1,6 @@
 //! Document 01's sample trace, byte for byte, and the text of refused ones.
 
+use witness::packed;
 use witness::text::Text;
 use witness::Document01;
 
@@ -16,17 +17,18 @@ pub const SAMPLE: [u8; 43] = [
     0x14, 0x00, 0x00, 0x00,
 ];
 
+/// Document 01's text with the distances of ticket 5.
 const TEXT: &str = "\
 MBT 1 9
-0 C ---- 0 0 --
-1 C ---- 0 0 --
-2 C ---- 0 0 --
-3 C ---- 0 0 --
-4 C ---- 0 0 --
-5 T 2326 0 0 --
-6 T 2326 1 1 --
-7 C ---- 0 1 01
-8 A ---- 0 0 01
+0 C ---- 0 0 -- 0
+1 C ---- 0 0 -- 0
+2 C ---- 0 0 -- 0
+3 C ---- 0 0 -- 0
+4 C ---- 0 0 -- 0
+5 T 2326 0 0 -- 11
+6 T 2326 1 1 -- 11
+7 C ---- 0 1 01 0
+8 A ---- 0 0 01 0
 ";
 
 fn run(trace: &[u8]) -> String {
@@ -46,11 +48,31 @@ fn sample_is_byte_for_byte() {
     assert_eq!(run(&SAMPLE), TEXT);
 }
 
+/// The same answers as the benchmark has them.
+#[test]
+fn sample_is_packed_into_seven_bytes_a_record() {
+    let write = [b'C', 0, 0, 0, 0, 0, 0];
+    let packed = [
+        write,
+        write,
+        write,
+        write,
+        write,
+        [b'T', 0, 0x23, 0x26, 0b0001, 0, 11],
+        [b'T', 0, 0x23, 0x26, 0b0111, 0, 11],
+        [b'C', 0, 0, 0, 0b1100, 0x01, 0],
+        [b'A', 0, 0, 0, 0b1000, 0x01, 0],
+    ];
+    let mut answers = [0xFF; 9 * packed::BYTES];
+    packed::run(&SAMPLE, &mut answers);
+    assert_eq!(answers, *packed.as_flattened());
+}
+
 #[test]
 fn refused_records_leave_the_run_going() {
     let mut capture = trace(1, 3, 0);
     capture.extend([0x83, 0, 0x12, 0, 0x83, 0, 0x02, 0, 0x83, 0, 0x00, 0x80]);
-    let text = "MBT 1 3\n0 X3 ---- 0 0 --\n1 X4 ---- 0 0 --\n2 C ---- 0 0 --\n";
+    let text = "MBT 1 3\n0 X3 ---- 0 0 -- 0\n1 X4 ---- 0 0 -- 0\n2 C ---- 0 0 -- 0\n";
     assert_eq!(run(&capture), text);
 }
 
@@ -87,6 +109,6 @@ fn length_is_8() {
 fn empty_and_longest_are_good() {
     assert_eq!(run(&trace(1, 0, 0)), "MBT 1 0\n");
     let text = run(&trace(1, 16_000, 4 * 16_000));
-    assert!(text.starts_with("MBT 1 16000\n0 I ---- 0 0 --\n"));
-    assert!(text.ends_with("\n15999 I ---- 0 0 --\n"));
+    assert!(text.starts_with("MBT 1 16000\n0 I ---- 0 0 -- 0\n"));
+    assert!(text.ends_with("\n15999 I ---- 0 0 -- 0\n"));
 }

@@ -43,6 +43,7 @@ const RULES: &[(&str, &str)] = &[
     ("Translation::logical", "the address passed with TRNS clear"),
     ("Translation::physical", "base + offset byte"),
     ("Checks::outside", "length"),
+    ("Checks::distance", "how many blocks remain to the edge"),
     ("Checks::warns", "what is a warning"),
     ("Checks::check", "a violation is no warning"),
     ("Checks::violation_flags", "the flags of a violation"),
@@ -76,7 +77,7 @@ const RULES: &[(&str, &str)] = &[
     ("Memory::held", "SUP while hold stands"),
     (
         "Memory::memory",
-        "hold, ISN, IOFF and the low byte in a memory cycle",
+        "hold, ISN, IOFF, the low byte and the distance in a memory cycle",
     ),
     ("Memory::translated", "a translated cycle"),
     ("Memory::aborted_fetch", "the aborted fetch"),

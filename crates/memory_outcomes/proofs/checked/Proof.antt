@@ -15,14 +15,17 @@ checked-spec =
     (λ c κs. search needs)
     (λ c κs. search needs)
     (λ c κs. search needs)
+    (λ c κs. search needs)
     (λ c.
     let answered = c .before .before .before in
-    let asked = answered .before .before in
+    let measured = answered .before in
+    let asked = measured .before .before in
     let stored = asked .before .before .before in
     simp (
       ← stored .before .event-of .ensures,
       ← stored .recorded .ensures,
       ← asked .is-fetch .ensures,
+      ← measured .distance .ensures,
       ← answered .seen .ensures,
       ← c .before .noted .ensures,
       ← c .touched-by .ensures,

@@ -1,7 +1,7 @@
-//! Wrong readings of the checks and of the warning.
+//! Wrong readings of the checks, of the warning and of the distance.
 
 use super::wrong;
-use witness::checks::Finding;
+use witness::checks::{Checks, Finding};
 use witness::cycle::Cycle;
 use witness::unit::{attribute, violation, Descriptor};
 use witness::Document01;
@@ -9,6 +9,36 @@ use witness::Document01;
 /// In the last block that is permitted upward.
 fn at_limit(descriptor: &Descriptor, cycle: &Cycle) -> bool {
     !descriptor.has(attribute::DIRW) && cycle.offset == descriptor.limit
+}
+
+fn violates(descriptor: &Descriptor, cycle: &Cycle) -> bool {
+    matches!(Document01::check(descriptor, cycle), Finding::Violation(_))
+}
+
+/// The right distance where a wrong reading has one, else 0.
+fn distance_if(carried: bool, descriptor: &Descriptor, cycle: &Cycle) -> u8 {
+    if carried { Document01::distance(descriptor, cycle) } else { 0 }
+}
+
+/// Another distance without a length violation, else 0.
+fn inside(distance: u8, descriptor: &Descriptor, cycle: &Cycle) -> u8 {
+    if Document01::outside(descriptor, cycle) { 0 } else { distance }
+}
+
+/// The right distance, but another one with DIRW.
+fn with_dirw(distance: u8, descriptor: &Descriptor, cycle: &Cycle) -> u8 {
+    match descriptor.has(attribute::DIRW) {
+        true => inside(distance, descriptor, cycle),
+        false => Document01::distance(descriptor, cycle),
+    }
+}
+
+/// The right distance, but another one in a length violation.
+fn with_violation(distance: u8, descriptor: &Descriptor, cycle: &Cycle) -> u8 {
+    match Document01::outside(descriptor, cycle) {
+        true => distance,
+        false => Document01::distance(descriptor, cycle),
+    }
 }
 
 wrong! { Checks:
@@ -219,6 +249,110 @@ wrong! { Checks:
     WarnsInLowHalf "only a write in the lower half of the block at the limit warns" {
         fn warns(descriptor: &Descriptor, cycle: &Cycle) -> bool {
             cycle.low < 0x80 && Document01::warns(descriptor, cycle)
+        }
+    }
+    DistanceNotInViolation "in any violation the distance is 0" {
+        fn distance(descriptor: &Descriptor, cycle: &Cycle) -> u8 {
+            distance_if(!violates(descriptor, cycle), descriptor, cycle)
+        }
+    }
+    DistanceNotForDma "for DMA the distance is 0" {
+        fn distance(descriptor: &Descriptor, cycle: &Cycle) -> u8 {
+            distance_if(!cycle.dma, descriptor, cycle)
+        }
+    }
+    DistanceNotInDmaViolation "in a DMA violation the distance is 0" {
+        fn distance(descriptor: &Descriptor, cycle: &Cycle) -> u8 {
+            distance_if(!cycle.dma || !violates(descriptor, cycle), descriptor, cycle)
+        }
+    }
+    DistanceOfStacks "only a segment with DIRW has a distance" {
+        fn distance(descriptor: &Descriptor, cycle: &Cycle) -> u8 {
+            distance_if(descriptor.has(attribute::DIRW), descriptor, cycle)
+        }
+    }
+    DistanceAtStackStatus "only status %9 and %B have a distance" {
+        fn distance(descriptor: &Descriptor, cycle: &Cycle) -> u8 {
+            distance_if(matches!(cycle.status, 0x9 | 0xB), descriptor, cycle)
+        }
+    }
+    DistanceOfWrites "only writes have a distance" {
+        fn distance(descriptor: &Descriptor, cycle: &Cycle) -> u8 {
+            distance_if(cycle.write(), descriptor, cycle)
+        }
+    }
+    DistanceWithAccessed "the accessed block counts: the distance is one more" {
+        fn distance(descriptor: &Descriptor, cycle: &Cycle) -> u8 {
+            let more = Document01::distance(descriptor, cycle).saturating_add(1);
+            inside(more, descriptor, cycle)
+        }
+    }
+    DistanceWithoutLast "the last permitted block does not count: the distance is one less" {
+        fn distance(descriptor: &Descriptor, cycle: &Cycle) -> u8 {
+            Document01::distance(descriptor, cycle).saturating_sub(1)
+        }
+    }
+    DistanceToWarning "with DIRW the block at the limit, where a write warns, does not count" {
+        fn distance(descriptor: &Descriptor, cycle: &Cycle) -> u8 {
+            let less = Document01::distance(descriptor, cycle).saturating_sub(1);
+            with_dirw(less, descriptor, cycle)
+        }
+    }
+    DistanceUpward "the distance does not look at DIRW" {
+        fn distance(descriptor: &Descriptor, cycle: &Cycle) -> u8 {
+            descriptor.limit.saturating_sub(cycle.offset)
+        }
+    }
+    DistanceReversed "limit less offset byte with DIRW, offset byte less limit without" {
+        fn distance(descriptor: &Descriptor, cycle: &Cycle) -> u8 {
+            let attributes = descriptor.attributes ^ attribute::DIRW;
+            Document01::distance(&Descriptor { attributes, ..*descriptor }, cycle)
+        }
+    }
+    DistanceBack "in a length violation the distance is that back to the limit" {
+        fn distance(descriptor: &Descriptor, cycle: &Cycle) -> u8 {
+            cycle.offset.abs_diff(descriptor.limit)
+        }
+    }
+    DistanceWraps "in a length violation the distance is the difference modulo 256" {
+        fn distance(descriptor: &Descriptor, cycle: &Cycle) -> u8 {
+            let back = cycle.offset.abs_diff(descriptor.limit);
+            with_violation(back.wrapping_neg(), descriptor, cycle)
+        }
+    }
+    DistanceAllOnes "in a length violation the distance is 255" {
+        fn distance(descriptor: &Descriptor, cycle: &Cycle) -> u8 {
+            with_violation(0xFF, descriptor, cycle)
+        }
+    }
+    DistanceToTop "with DIRW the distance is measured to the top: 255 less offset byte" {
+        fn distance(descriptor: &Descriptor, cycle: &Cycle) -> u8 {
+            with_dirw(0xFF - cycle.offset, descriptor, cycle)
+        }
+    }
+    DistanceFromFirst "the distance is measured from the segment's first block" {
+        fn distance(descriptor: &Descriptor, cycle: &Cycle) -> u8 {
+            match descriptor.has(attribute::DIRW) {
+                true => inside(0xFF - cycle.offset, descriptor, cycle),
+                false => inside(cycle.offset, descriptor, cycle),
+            }
+        }
+    }
+    DistanceOfLimitBlocks "with DIRW the distance is that of limit + 1 blocks from the top" {
+        fn distance(descriptor: &Descriptor, cycle: &Cycle) -> u8 {
+            let lowest = 0xFF - descriptor.limit;
+            with_dirw(cycle.offset.saturating_sub(lowest), descriptor, cycle)
+        }
+    }
+    DistanceIsLimit "with DIRW the distance is the limit" {
+        fn distance(descriptor: &Descriptor, cycle: &Cycle) -> u8 {
+            with_dirw(descriptor.limit, descriptor, cycle)
+        }
+    }
+    DistanceOfLow "a low byte other than 0 leaves one whole block less" {
+        fn distance(descriptor: &Descriptor, cycle: &Cycle) -> u8 {
+            let part = u8::from(cycle.low != 0);
+            Document01::distance(descriptor, cycle).saturating_sub(part)
         }
     }
 }

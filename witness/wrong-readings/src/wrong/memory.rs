@@ -1,7 +1,7 @@
-//! Wrong readings of fetches, of SUP and hold, of the marks and of the
-//! instruction address.
+//! Wrong readings of fetches, of SUP and hold, of the marks, of the instruction
+//! address, and of which memory cycles carry a distance.
 
-use super::wrong;
+use super::{carried, distance, wrong};
 use witness::checks::{Checks, Finding};
 use witness::cycle::{Answer, Cycle, Kind};
 use witness::generate::bus::finding;
@@ -89,6 +89,7 @@ wrong! { Memory:
             Answer {
                 address: Some(address),
                 sup: true,
+                distance: distance(unit, cycle),
                 ..Answer::quiet(Kind::Translated, unit.request)
             }
         }
@@ -507,6 +508,56 @@ wrong! { Memory:
         fn start_instruction(unit: &mut Unit) {
             Document01::start_instruction(unit);
             unit.low = 0;
+        }
+    }
+    DistanceNotHeld "a cycle that hold suppresses carries 0" {
+        fn translated(unit: &mut Unit, cycle: &Cycle, address: u16, held: bool) -> Answer {
+            let answer = Document01::translated(unit, cycle, address, held);
+            Answer { distance: if held { 0 } else { answer.distance }, ..answer }
+        }
+    }
+    DistanceNotOfFetch "no fetch carries a distance, aborted or not" {
+        fn translated(unit: &mut Unit, cycle: &Cycle, address: u16, held: bool) -> Answer {
+            let fetch = Document01::fetches(unit, cycle);
+            let answer = Document01::translated(unit, cycle, address, held);
+            Answer { distance: if fetch { 0 } else { answer.distance }, ..answer }
+        }
+    }
+    DistanceOfPhysical "the distance is measured from the low byte of the address lines" {
+        fn translated(unit: &mut Unit, cycle: &Cycle, address: u16, held: bool) -> Answer {
+            let [_, offset] = address.to_be_bytes();
+            let distance = distance(unit, &Cycle { offset, ..*cycle });
+            Answer { distance, ..Document01::translated(unit, cycle, address, held) }
+        }
+    }
+    DistanceAtSar "the distance is measured in the descriptor at SAR" {
+        fn translated(unit: &mut Unit, cycle: &Cycle, address: u16, held: bool) -> Answer {
+            let distance = distance(unit, &Cycle { segment: unit.sar, ..*cycle });
+            Answer { distance, ..Document01::translated(unit, cycle, address, held) }
+        }
+    }
+    DistanceOfAborted "a translated aborted fetch carries the distance" {
+        fn aborted_fetch(unit: &mut Unit, cycle: &Cycle) -> Answer {
+            let distance = if translates(unit, cycle) { distance(unit, cycle) } else { 0 };
+            Answer { distance, ..Document01::aborted_fetch(unit, cycle) }
+        }
+    }
+    DistanceOfPassed "a passed cycle carries the distance by its descriptor" {
+        fn memory(unit: &mut Unit, cycle: &Cycle) -> Answer {
+            let distance = distance(unit, cycle);
+            carried(distance, Document01::memory(unit, cycle), |kind| kind == Kind::Passed)
+        }
+    }
+    DistanceOfPassedToTop "a passed cycle carries 255 less offset byte" {
+        fn memory(unit: &mut Unit, cycle: &Cycle) -> Answer {
+            let distance = 0xFF - cycle.offset;
+            carried(distance, Document01::memory(unit, cycle), |kind| kind == Kind::Passed)
+        }
+    }
+    DistanceOfNotDriven "a memory cycle that is not driven carries the distance by its descriptor" {
+        fn memory(unit: &mut Unit, cycle: &Cycle) -> Answer {
+            let distance = distance(unit, cycle);
+            carried(distance, Document01::memory(unit, cycle), |kind| kind == Kind::Ignored)
         }
     }
 }

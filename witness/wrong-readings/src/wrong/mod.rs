@@ -10,8 +10,12 @@ mod text;
 mod trace;
 mod translation;
 
+use witness::checks::Checks;
+use witness::cycle::{Answer, Cycle, Kind};
 use witness::script;
 use witness::text::Text;
+use witness::unit::Unit;
+use witness::Document01;
 
 /// One wrong reading, with the text that it prints for a trace and for a step
 /// script.
@@ -54,6 +58,19 @@ pub fn readings() -> Vec<&'static Wrong> {
         text::READINGS,
     ];
     subjects.into_iter().flatten().collect()
+}
+
+/// What a translated cycle would carry, whatever this one is.
+fn distance(unit: &Unit, cycle: &Cycle) -> u8 {
+    Document01::distance(&unit.table[usize::from(cycle.entry())], cycle)
+}
+
+/// The same answer, but one of such a kind carries this distance.
+fn carried(distance: u8, answer: Answer, kinds: fn(Kind) -> bool) -> Answer {
+    match kinds(answer.kind) {
+        true => Answer { distance, ..answer },
+        false => answer,
+    }
 }
 
 /// A list of wrong readings of one trait's rules: for each a type that has the

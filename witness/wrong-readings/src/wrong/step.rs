@@ -1,7 +1,7 @@
 //! Wrong readings of the refusals, of which cycle is what, of reset and of
 //! acknowledge.
 
-use super::wrong;
+use super::{carried, distance, wrong};
 use witness::commands::{code, Commands};
 use witness::cycle::{Answer, Cycle, Kind};
 use witness::generate::bus::{violates, warns};
@@ -49,6 +49,12 @@ fn refusal(unit: &Unit, cycle: &Cycle, overlooked: bool) -> Option<u8> {
         true => OrphanWhole::refusal(unit, cycle),
         false => Document01::refusal(unit, cycle),
     }
+}
+
+/// The right answer, but one of such a kind carries a distance.
+fn carried_by(unit: &mut Unit, cycle: &Cycle, kinds: fn(Kind) -> bool) -> Answer {
+    let distance = distance(unit, cycle);
+    carried(distance, Document01::step(unit, cycle), kinds)
 }
 
 wrong! { Step:
@@ -757,6 +763,41 @@ wrong! { Step:
             let answer = Document01::step(unit, cycle);
             unit.low = if !request && unit.request { cycle.low } else { low };
             answer
+        }
+    }
+    DistanceOfEveryCycle "every cycle carries a distance" {
+        fn step(unit: &mut Unit, cycle: &Cycle) -> Answer {
+            carried_by(unit, cycle, |_| true)
+        }
+    }
+    DistanceOfCommand "a command carries a distance" {
+        fn step(unit: &mut Unit, cycle: &Cycle) -> Answer {
+            carried_by(unit, cycle, |kind| kind == Kind::Command)
+        }
+    }
+    DistanceOfAcknowledge "an acknowledge carries a distance" {
+        fn step(unit: &mut Unit, cycle: &Cycle) -> Answer {
+            carried_by(unit, cycle, |kind| kind == Kind::Acknowledge)
+        }
+    }
+    DistanceOfReset "a reset cycle carries a distance" {
+        fn step(unit: &mut Unit, cycle: &Cycle) -> Answer {
+            carried_by(unit, cycle, |kind| kind == Kind::Reset)
+        }
+    }
+    DistanceOfRange "a cycle with a number out of range carries a distance" {
+        fn step(unit: &mut Unit, cycle: &Cycle) -> Answer {
+            carried_by(unit, cycle, |kind| kind == Kind::Refused(1))
+        }
+    }
+    DistanceOfDamaged "a damaged unit's refusal carries a distance" {
+        fn step(unit: &mut Unit, cycle: &Cycle) -> Answer {
+            carried_by(unit, cycle, |kind| kind == Kind::Refused(2))
+        }
+    }
+    DistanceOfBadCommand "a refused command carries a distance" {
+        fn step(unit: &mut Unit, cycle: &Cycle) -> Answer {
+            carried_by(unit, cycle, |kind| matches!(kind, Kind::Refused(3 | 4)))
         }
     }
 }

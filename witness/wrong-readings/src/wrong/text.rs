@@ -22,6 +22,36 @@ fn lines(trace: &[u8], change: impl Fn(usize, &str) -> String) -> Vec<u8> {
     changed.into_bytes()
 }
 
+/// The right text with each record's last field, the distance, written anew.
+fn distances(trace: &[u8], write: impl Fn(&str, u8) -> String) -> Vec<u8> {
+    lines(trace, |_, line| {
+        let (fields, distance) = line.rsplit_once(' ').expect("a record has fields");
+        let distance = distance.parse().expect("a distance is a byte");
+        format!("{fields} {}\n", write(fields, distance))
+    })
+}
+
+/// Of a record's fields.
+fn translated(fields: &str) -> bool {
+    fields.contains(" T ")
+}
+
+/// A record's line up to its data byte.
+fn without_distance(line: &str) -> String {
+    let fields = line.rsplit_once(' ').map_or("", |(fields, _)| fields);
+    format!("{fields}\n")
+}
+
+/// The right text with each record's distance moved to another place.
+fn distance_at(trace: &[u8], place: usize) -> Vec<u8> {
+    lines(trace, |_, line| {
+        let mut fields: Vec<&str> = line.split(' ').collect();
+        let distance = fields.pop().expect("a record has fields");
+        fields.insert(place, distance);
+        fields.join(" ") + "\n"
+    })
+}
+
 /// The right text with its first line changed.
 fn head(trace: &[u8], change: impl Fn(&str) -> String) -> Vec<u8> {
     let text = String::from_utf8(Document01::run(trace)).expect("the text is plain");
@@ -154,6 +184,86 @@ wrong! { Text:
             let fields = String::from_utf8_lossy(line).into_owned();
             let fields = fields.split_once(' ').map_or("", |(_, fields)| fields);
             lines(trace, |number, _| format!("{} {fields}\n", number - 1))
+        }
+    }
+    DistanceInHex "the distance is in hexadecimal" {
+        fn run(trace: &[u8]) -> Vec<u8> {
+            distances(trace, |_, distance| format!("{distance:X}"))
+        }
+    }
+    DistanceTwoDigits "the distance has two hexadecimal digits, as the data byte" {
+        fn run(trace: &[u8]) -> Vec<u8> {
+            distances(trace, |_, distance| format!("{distance:02X}"))
+        }
+    }
+    DistanceThreeDigits "the distance has leading zeros" {
+        fn run(trace: &[u8]) -> Vec<u8> {
+            distances(trace, |_, distance| format!("{distance:03}"))
+        }
+    }
+    DistanceAligned "the distance is filled up with spaces" {
+        fn run(trace: &[u8]) -> Vec<u8> {
+            distances(trace, |_, distance| format!("{distance:3}"))
+        }
+    }
+    DistanceSigned "a distance above 127 is printed as a negative number" {
+        fn run(trace: &[u8]) -> Vec<u8> {
+            distances(trace, |_, distance| (distance as i8).to_string())
+        }
+    }
+    DistanceInBytes "the distance is in bytes, 256 to a block" {
+        fn run(trace: &[u8]) -> Vec<u8> {
+            distances(trace, |_, distance| (256 * u32::from(distance)).to_string())
+        }
+    }
+    DistanceDash "a cycle that is not translated has - for its distance" {
+        fn run(trace: &[u8]) -> Vec<u8> {
+            distances(trace, |fields, distance| match translated(fields) {
+                true => distance.to_string(),
+                false => "-".to_string(),
+            })
+        }
+    }
+    DistanceDashes "a cycle that is not translated has -- for its distance" {
+        fn run(trace: &[u8]) -> Vec<u8> {
+            distances(trace, |fields, distance| match translated(fields) {
+                true => distance.to_string(),
+                false => "--".to_string(),
+            })
+        }
+    }
+    DistanceKept "a cycle that is not translated shows the last distance" {
+        fn run(trace: &[u8]) -> Vec<u8> {
+            let last = std::cell::Cell::new(0);
+            distances(trace, |fields, distance| {
+                if translated(fields) {
+                    last.set(distance);
+                }
+                last.get().to_string()
+            })
+        }
+    }
+    DistanceOfTranslated "only a translated cycle has a seventh field" {
+        fn run(trace: &[u8]) -> Vec<u8> {
+            lines(trace, |_, line| match translated(line) {
+                true => format!("{line}\n"),
+                false => without_distance(line),
+            })
+        }
+    }
+    DistanceUnprinted "no line has a seventh field" {
+        fn run(trace: &[u8]) -> Vec<u8> {
+            lines(trace, |_, line| without_distance(line))
+        }
+    }
+    DistanceBeforeData "the distance stands before the data byte" {
+        fn run(trace: &[u8]) -> Vec<u8> {
+            distance_at(trace, 5)
+        }
+    }
+    DistanceAfterAddress "the distance stands after the address" {
+        fn run(trace: &[u8]) -> Vec<u8> {
+            distance_at(trace, 3)
         }
     }
 }
