@@ -50,13 +50,20 @@ unfoldable pub byteText : (driven : Bool) → ℕ → List ℕ
 byteText true byte = hexText byte
 byteText false byte = dashes
 
--- "SUP as 0 or 1; request after the cycle as 0 or 1; data byte"; "Every line ends in a line feed."
+-- "SUP as 0 or 1; request after the cycle as 0 or 1; data byte", and the space after each
 abbrev pub signalsRoom : ℕ
 signalsRoom = 1 + 1 + 1 + 1 + hexRoom + 1
 
 unfoldable pub signals : (sup request drives : Bool) → (byte : ℕ) → List ℕ
 signals sup request drives byte =
-    bitText sup ∷ space ∷ bitText request ∷ space ∷ byteText drives byte ++ (feed ∷ [])
+    bitText sup ∷ space ∷ bitText request ∷ space ∷ byteText drives byte ++ (space ∷ [])
+
+-- ticket 5: "`mmurun` prints it in decimal as a seventh field"; "Every line ends in a line feed."
+abbrev pub endingRoom : ℕ
+endingRoom = decimalRoom + 1
+
+unfoldable pub ending : (distance : ℕ) → List ℕ
+ending distance = decimal distance ++ (feed ∷ [])
 
 -- "First line: mark, version, count in decimal, one space between"
 abbrev pub markText : List ℕ

@@ -10,7 +10,7 @@ use Rattle.trace_header.specs.Header.{format1}
 use Rattle.text.specs.Lines.{headRoom, lineRoom}
 use Rattle.text.specs.Text.{printed}
 
--- the bytes that any text has room in: a first line, and a line for each record of the longest trace, 400,012
+-- the bytes that any text has room in: a first line, and a line for each record of the longest trace, 496,012
 abbrev pub textRoom : ℕ
 textRoom = headRoom + lineRoom * format1 .most
 

@@ -4,7 +4,7 @@ use mathlib.Core.List.{List, [], _∷_, _++_}
 use Prim.Native.Nat.{ℕ, _+_}
 use lib.Dec.{eqb}
 use Rattle.trace_header.specs.Header.{countOf, refusalOf}
-use Rattle.text.specs.Fields.{space, opening, addressText, signals, headText, refusalText}
+use Rattle.text.specs.Fields.{space, opening, addressText, signals, ending, headText, refusalText}
 use Rattle.rules.specs.Kinds.{letterOf, numberOf}
 use Rattle.rules.specs.PowerOn.{powerOn}
 use Rattle.rules.specs.Runs.{answers}
@@ -13,12 +13,12 @@ use Rattle.trace_records.specs.Trace.{cyclesOf}
 use Rattle.unit_stores.specs.Word.{highOf, lowOf}
 
 -- "Then each record, its fields parted by one space: number in decimal from 0; kind [..]; address lines [..]; SUP [..]; request
--- after the cycle [..]; data byte the unit drives"
+-- after the cycle [..]; data byte the unit drives"; ticket 5: the distance
 unfoldable pub answerLine : ℕ → Answer → List ℕ
 answerLine n a =
     opening n (letterOf (a .kind)) (numberOf (a .kind))
     ++ (addressText (a .address .driven) (highOf (a .address .block)) (lowOf (a .address .block))
-    ++ (space ∷ signals (a .sup) (a .trap) (a .drives) (a .byte)))
+    ++ (space ∷ signals (a .sup) (a .trap) (a .drives) (a .byte) ++ ending (a .distance)))
 
 -- the lines of answers, numbered from n
 abbrev pub answerLines : ℕ → List Answer → List ℕ

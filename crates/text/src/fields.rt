@@ -7,7 +7,7 @@ ghost use Rattle.unit_stores.specs.Put.{Put};
 ghost use Rattle.unit_packed.specs.Packed.{SUP, TRAP, DRIVES};
 ghost use Rattle.text.specs.Digits.{decimals, hexRoom};
 ghost use Rattle.text.specs.Fields.{kindRoom, kindText, openingRoom, opening, addressRoom, addressText};
-ghost use Rattle.text.specs.Fields.{bitText, byteText, signalsRoom, signals};
+ghost use Rattle.text.specs.Fields.{bitText, byteText, signalsRoom, signals, endingRoom, ending};
 use crate::numbers::put_dashes;
 use crate::numbers::put_decimal;
 use crate::numbers::put_hex;
@@ -72,7 +72,7 @@ fn bit_text(on: bool) -> u8
     if on { b'1' } else { b'0' }
 }
 
-// SUP, the request, the data byte and the end of a line, by an answer's flags.
+// SUP, the request and the data byte, by an answer's flags, and the space after each.
 pub fn put_signals(out: &mut [u8], at: usize, flags: u8, byte: u8) -> usize
     requires { ⌜ at + signalsRoom ≤ length (now out) ⌝ }
     ensures { λ r. ⌜ Put (now (out .entry)) at (signals (has flags SUP) (has flags TRAP) (has flags DRIVES) byte) (now (out .exit)) r ⌝ }
@@ -85,5 +85,15 @@ pub fn put_signals(out: &mut [u8], at: usize, flags: u8, byte: u8) -> usize
     let p3 = put(out, p2, request);
     let p4 = put(out, p3, b' ');
     let p5 = put_byte(out, p4, flags & unit_packed::DRIVES != 0, byte);
-    put(out, p5, b'\n')
+    put(out, p5, b' ')
+}
+
+// The distance, and the end of a line.
+pub fn put_ending(out: &mut [u8], at: usize, distance: u8) -> usize
+    requires { ⌜ at + endingRoom ≤ length (now out) ⌝ }
+    ensures { λ r. ⌜ Put (now (out .entry)) at (ending distance) (now (out .exit)) r ⌝ }
+    ensures { λ r. ⌜ r ≤ at + endingRoom ⌝ }
+{
+    let p = put_decimal(out, at, distance as usize);
+    put(out, p, b'\n')
 }

@@ -8,6 +8,7 @@ ghost use Rattle.text.specs.Digits.{decimals};
 ghost use Rattle.text.specs.Fields.{markRoom, markText, headText, refusalText};
 ghost use Rattle.text.specs.Lines.{headRoom, lineRoom, lineOf, linesOf};
 use crate::fields::put_address;
+use crate::fields::put_ending;
 use crate::fields::put_kind;
 use crate::fields::put_opening;
 use crate::fields::put_signals;
@@ -18,7 +19,7 @@ use unit_stores::put;
 // The most bytes of the first line, or of a refused trace's only line, and of the line of a record.
 pub const HEAD: usize = 12;
 
-pub const LINE: usize = 25;
+pub const LINE: usize = 31;
 
 // A record's line, from its packed answer.
 fn put_line(out: &mut [u8], at: usize, n: usize, packed: &[u8]) -> usize
@@ -32,10 +33,12 @@ fn put_line(out: &mut [u8], at: usize, n: usize, packed: &[u8]) -> usize
     let low = packed[unit_packed::LOW_AT];
     let flags = packed[unit_packed::FLAGS_AT];
     let byte = packed[unit_packed::DATA_BYTE_AT];
+    let distance = packed[unit_packed::DISTANCE_AT];
     let p1 = put_opening(out, at, n, letter, number);
     let p2 = put_address(out, p1, flags & unit_packed::ADDRESS != 0, high, low);
     let p3 = put(out, p2, b' ');
-    put_signals(out, p3, flags, byte)
+    let p4 = put_signals(out, p3, flags, byte);
+    put_ending(out, p4, distance)
 }
 
 // The lines of all records, from their packed answers.

@@ -8,8 +8,8 @@ use crate::lines::put_lines;
 use crate::lines::put_refusal;
 use trace_header::MOST;
 
-// The bytes that any text has room in, 400,012: the longest first line, and the longest line for each record of the longest trace. The
-// longest text is that of 16,000 refused commands, 324,902 bytes.
+// The bytes that any text has room in, 496,012: the longest first line, and the longest line for each record of the longest trace. The
+// longest text is that of two commands and 15,998 cycles 100 blocks or more from the edge of their segment, 372,898 bytes.
 pub const ROOM: usize = crate::lines::HEAD + crate::lines::LINE * MOST;
 
 // Zeros, with room for the answers of the longest trace. Its length is all that matters.

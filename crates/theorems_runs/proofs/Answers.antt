@@ -2,7 +2,7 @@
 -- else.
 -- Assumes nothing.
 use mathlib.Core.Path.{_≡_, refl, sym, _∙_, ap}
-use mathlib.Core.Bool.{Bool, true, false, cond, not, _&&_, _||_, Bool·beq, and-false}
+use mathlib.Core.Bool.{Bool, true, false, cond, not, _&&_, _||_, Bool·beq, and-false, false≢true}
 use mathlib.Core.Option.{Option, none, some}
 use Prim.Native.Nat.{ℕ, _+_, _*_, _-_, _%_}
 use lib.Dec.{eqb, leb, ltb}
@@ -22,7 +22,7 @@ use Rattle.rules.specs.Memory.{begun, checked, accessed, aborted, untranslated,
 use Rattle.rules.specs.Translation.{wayBy, wayOf, blockOf, addressOf}
 use Rattle.rules.specs.Codes.{commandOf}
 use Rattle.rules.specs.Commands.{replied, programmed, entry, acted, executed, commanded}
-use Rattle.rules.specs.Step.{decidedBy, decided, place, decision}
+use Rattle.rules.specs.Step.{decidedBy, decided, place, decision, stepped}
 use Rattle.rules.specs.declared.Action.{Action}
 use Rattle.rules.specs.declared.Action.the-variants.{SoftwareReset, ClearVtr, ClearSww, ClearFatl, SetCpui, SetDmai}
 use Rattle.rules.specs.declared.Answer.{Answer}
@@ -38,10 +38,10 @@ use Rattle.rules.specs.declared.Registers.{Registers}
 use Rattle.rules.specs.declared.Unit.{Unit}
 use Rattle.rules.specs.declared.Way.{Way}
 use Rattle.theorems_runs.specs.Answers.{awaited, kindBy, KindExactly, isAborted, AbortedExactly, segmentOf, driven, AddressExactly}
-use Rattle.theorems_runs.specs.Answers.{beyondLimit, breaks, SupExactly, blocksLeft, DistanceExactly}
+use Rattle.theorems_runs.specs.Answers.{breaks, translated, SupExactly, blocksLeft, DistanceExactly}
 use Rattle.theorems_runs.specs.Cycles.{selectedCommand, acknowledge, memoryCycle, fetches, passingConditions, translationConditions}
 use Rattle.theorems_runs.specs.Cycles.{readOnly, setOrClear, listed}
-use Rattle.theorems_runs.specs.Refusal.{numberIn, earliest, refusalOf, admitted}
+use Rattle.theorems_runs.specs.Refusal.{numberIn, earliest, refusalOf, unlisted, wrongWay, admitted}
 use Rattle.theorems_runs.proofs.Bits.{or-none}
 use Rattle.theorems_runs.proofs.Codes.{isShow, isAct, isListed, show-codes, act-codes, listed-codes}
 use Rattle.theorems_runs.proofs.Looks.{conditions-way}
@@ -287,23 +287,23 @@ memory-place u c e =
     (own-segment (u .registers) c (differs (λ s. leb 8 s && leb s 13) (c .status) 3 (and-r (not (c .reset)) _ e) refl))
 
 -- what is the same wherever it is said
-cond-same : {A : Type 0} {z : A} (t : Bool) (l m : A) → (t ≡ true → l ≡ m) → cond t l z ≡ cond t m z
-cond-same true l m h = h refl
-cond-same false l m h = refl
+cond-same : {A : Type 0} (t : Bool) (l m z : A) → (t ≡ true → l ≡ m) → cond t l z ≡ cond t m z
+cond-same true l m z h = h refl
+cond-same false l m z h = refl
 
-cond-nest : {A : Type 0} {z : A} (a b : Bool) (l : A) → cond a (cond b l z) z ≡ cond (a && b) l z
-cond-nest true b l = refl
-cond-nest false b l = refl
+cond-nest : {A : Type 0} (a b : Bool) (l z : A) → cond a (cond b l z) z ≡ cond (a && b) l z
+cond-nest true b l z = refl
+cond-nest false b l z = refl
 
 pub address-exactly : AddressExactly
 address-exactly u c =
     let mr : ℕ = u .registers .control .mr in
     let m : Bool = admitted u c && memoryCycle c in
     ap (λ (s : Shown). s .address) (says u c .answer)
-    ∙ cond-same m _ (addressOf (wayOf mr c) (segmentOf u c .base) c)
+    ∙ cond-same m _ (addressOf (wayOf mr c) (segmentOf u c .base) c) off
     (λ e. ap (λ (i : ℕ). addressOf (wayOf mr c) (getD (u .table) i blank .base) c) (memory-place u c (and-r (admitted u c) _ e)))
     ∙ ap (λ (l : Address). cond m l off) (lines-way mr (segmentOf u c .base) c)
-    ∙ cond-nest m (passingConditions mr || translationConditions mr c) _
+    ∙ cond-nest m (passingConditions mr || translationConditions mr c) _ off
 
 -- SUP
 
@@ -416,12 +416,39 @@ distance-exactly u c =
     let mr : ℕ = u .registers .control .mr in
     let m : Bool = admitted u c && memoryCycle c in
     ap (λ (s : Shown). s .distance) (says u c .answer)
-    ∙ cond-same m _ (distanceHere (u .registers) (segmentOf u c) c)
+    ∙ cond-same m _ (distanceHere (u .registers) (segmentOf u c) c) 0
     (λ e. ap (λ (i : ℕ). distanceHere (u .registers) (getD (u .table) i blank) c) (memory-place u c (and-r (admitted u c) _ e)))
     ∙ rw (conditions-way mr c, blocks-exactly (segmentOf u c) c)
     (one-way (admitted u c) (c .reset) (leb 8 (c .status) && leb (c .status) 13) (fetch c) (u .registers .notes .awaits)
     (translationConditions mr c) (blocksLeft (segmentOf u c) (c .offset)))
 
--- a cycle that is answered so is translated
+-- T is printed of a translated cycle alone
+abbrev isT : Kind → Bool
+isT kind.Reset = false
+isT kind.Acknowledge = false
+isT kind.Command = false
+isT kind.Aborted = false
+isT kind.Translated = true
+isT kind.Passed = false
+isT kind.Ignored = false
+isT (kind.Refused n) = false
+
 pub translates : (u : Unit) (c : Cycle) → stepped u c .answer .kind ≡ kind.Translated → translated u c ≡ true
-translates u c e = ?
+translates u c e =
+    go (damaged (u .registers)) (outOfRange c) (unlisted c) (wrongWay c) (c .reset) (acknowledge c) (selectedCommand c) (memoryCycle c) (awaited u c)
+    (translationConditions (u .registers .control .mr) c) (passingConditions (u .registers .control .mr)) (ap isT (sym (kind-exactly u c) ∙ e))
+  where
+    go : (two one three four r a k m w t p : Bool) → isT (kindBy (earliest two one three four) r a k m w t p) ≡ true
+        → (not two && not one && m && not w && t) ≡ true
+    go true one three four r a k m w t p e = absurd (false≢true e)
+    go false true three four r a k m w t p e = absurd (false≢true e)
+    go false false true four r a k m w t p e = absurd (false≢true e)
+    go false false false true r a k m w t p e = absurd (false≢true e)
+    go false false false false true a k m w t p e = absurd (false≢true e)
+    go false false false false false true k m w t p e = absurd (false≢true e)
+    go false false false false false false true m w t p e = absurd (false≢true e)
+    go false false false false false false false false w t p e = absurd (false≢true e)
+    go false false false false false false false true true t p e = absurd (false≢true e)
+    go false false false false false false false true false true p e = refl
+    go false false false false false false false true false false true e = absurd (false≢true e)
+    go false false false false false false false true false false false e = absurd (false≢true e)

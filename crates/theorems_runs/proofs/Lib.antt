@@ -30,6 +30,7 @@ pub mod Dma
 pub mod Unstopped
 pub mod Tighter
 pub mod Narrowing
+pub mod Distance
 pub mod Others
 pub mod Needed
 pub mod NarrowerNeeded

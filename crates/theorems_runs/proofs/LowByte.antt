@@ -7,7 +7,7 @@ use Prim.Native.Nat.{ℕ}
 use lib.Dec.{eqb}
 use lib.ListN.{getD}
 use Rattle.rules.specs.Bus.{cpu, fetch}
-use Rattle.rules.specs.Checks.{rightsOf, outOfLength, warns, found}
+use Rattle.rules.specs.Checks.{rightsOf, outOfLength, distanceOf, warns, found}
 use Rattle.rules.specs.Codes.{commandOf}
 use Rattle.rules.specs.Commands.{replied, programmed, entry, restarted, acted, executed, commanded}
 use Rattle.rules.specs.Entry.{moved}
@@ -78,12 +78,12 @@ module _ (r : Registers) (d : Descriptor) (c : Cycle) where
   touched-bare false = refl
 
   accessed-bare : (s : Registers) (l : Address) → Bare (accessed s d c l) (accessed (bareRegisters s) d (bareCycle c) l)
-  unfolding accessed checked rightsOf outOfLength warns noted
+  unfolding accessed checked rightsOf outOfLength distanceOf warns noted
   accessed-bare s l =
       let e : ℕ = eventOf (c .dma) (found d c) in
       let v : Bool = found d c .violation in
       record {
-        answer = ap (λ (m : Registers). seen kind.Translated l (suppressed v s c) (m .notes .request)) (recorded-bare s e);
+        answer = ap (λ (m : Registers). seen kind.Translated l (suppressed v s c) (m .notes .request) (distanceOf d c)) (recorded-bare s e);
         registers = ap (λ (m : Registers). noted m (storing s c v) (v && cpu c) c) (recorded-bare s e);
         change = touched-bare (suppressed v s c);
       }

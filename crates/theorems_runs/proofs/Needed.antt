@@ -3,17 +3,21 @@
 use mathlib.Core.Path.{_≡_, refl, subst}
 use mathlib.Core.Bool.{Bool, true, false, false≢true}
 use mathlib.Core.List.{List, [], _∷_}
+use Prim.Native.Nat.{ℕ}
+use native.Mathlib.Omega.{arith}
 use Rattle.rules.specs.Masks.{DIRW}
 use lib.Dec.{lit≤}
 use Rattle.rules.specs.PowerOn.{blank}
 use Rattle.rules.specs.Seen.{segment, cycle, command}
 use Rattle.rules.specs.Runs.{answers}
+use Rattle.rules.specs.Step.{stepped}
+use Rattle.rules.specs.declared.Answer.{Answer}
 use Rattle.rules.specs.declared.Cycle.{Cycle}
 use Rattle.rules.specs.declared.Descriptor.{Descriptor}
 use Rattle.rules.specs.declared.Unit.{Unit}
 use Rattle.theorems_runs.specs.Sequences.{Both}
 use Rattle.theorems_runs.specs.Tighter.{Wider, Loosened, Covers, before, NoDescriptorWrite, TighterBy, StopNeeded}
-use Rattle.theorems_runs.specs.Tighter.{WritesExcluded}
+use Rattle.theorems_runs.specs.Tighter.{inEither, Any, WritesExcluded}
 use Rattle.theorems_runs.proofs.Computed.{computed}
 use Rattle.theorems_runs.proofs.Examples.{unit, unit-undamaged, wider-entries, readOnly, writable, closed, writable-wider}
 use Rattle.theorems_runs.proofs.Wider.{wider-refl}

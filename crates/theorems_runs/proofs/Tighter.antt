@@ -5,14 +5,13 @@ use mathlib.Core.Bool.{Bool, true, false, cond, _||_}
 use mathlib.Core.List.{List, [], _∷_}
 use Rattle.rules.specs.Runs.{answers}
 use Rattle.rules.specs.Step.{stepped}
-use Rattle.rules.specs.declared.Answer.{Answer}
 use Rattle.rules.specs.declared.Cycle.{Cycle}
 use Rattle.rules.specs.declared.Control.{Control}
 use Rattle.rules.specs.declared.Unit.{Unit}
 use Rattle.theorems_runs.specs.Answers.{abortedFetch}
 use Rattle.theorems_runs.specs.Narrower.{WritesNone, Narrower, AlongBoth, NarrowerKept, InStepKept, NarrowerCovers, WritesCover}
 use Rattle.theorems_runs.specs.Sequences.{Every, Both}
-use Rattle.theorems_runs.specs.Tighter.{Loosened, Covers, EachLine, inFirst, before, NoDescriptorWrite, TighterBy, Demand3, StopInFirst}
+use Rattle.theorems_runs.specs.Tighter.{Loosened, Covers, Nearer, EachLine, inFirst, before, NoDescriptorWrite, TighterBy, Demand3, StopInFirst}
 use Rattle.theorems_runs.specs.Undamaged.{Undamaged}
 use Rattle.theorems_runs.specs.Unstopped.{ofAborted, CoversBut}
 use Rattle.theorems_runs.proofs.Tests.{or-l}
@@ -24,19 +23,20 @@ unfolding AlongBoth
 none [] a b f = refl
 none (c ∷ cs) a b f = (f .0, none cs (stepped a c .unit) (stepped b c .unit) (f .1))
 
--- a line that holds throughout holds up to any stop
-cut-line : {Line : Answer → Answer → Type 0} (stop : Unit → Unit → Cycle → Bool) (cs : List Cycle) (a b : Unit)
-    → Both Line (answers a cs) (answers b cs) → Both Line (answers a (before stop a b cs)) (answers b (before stop a b cs))
+-- what holds of the distance throughout holds up to any stop
+nearer-cut : (stop : Unit → Unit → Cycle → Bool) (cs : List Cycle) (a b : Unit)
+    → Both Nearer (answers a cs) (answers b cs) → Both Nearer (answers a (before stop a b cs)) (answers b (before stop a b cs))
 unfolding answers before
-cut-line stop [] a b h = refl
-cut-line {Line} stop (c ∷ cs) a b h = go (stop a b c)
+nearer-cut stop [] a b h = refl
+nearer-cut stop (c ∷ cs) a b h = go (stop a b c) (nearer-cut stop cs (stepped a c .unit) (stepped b c .unit) (h .1))
   where
     rest : List Cycle
     rest = before stop (stepped a c .unit) (stepped b c .unit) cs
 
-    go : (t : Bool) → Both Line (answers a (cond t [] (c ∷ rest))) (answers b (cond t [] (c ∷ rest)))
-    go true = refl
-    go false = (h .0, cut-line stop cs (stepped a c .unit) (stepped b c .unit) (h .1))
+    go : (t : Bool) → Both Nearer (answers (stepped a c .unit) rest) (answers (stepped b c .unit) rest)
+        → Both Nearer (answers a (cond t [] (c ∷ rest))) (answers b (cond t [] (c ∷ rest)))
+    go true ih = refl
+    go false ih = (h .0, ih)
 
 narrower : {a b : Unit} → Undamaged a → Undamaged b → Loosened a b → Narrower a b
 narrower sa sb l =
@@ -67,7 +67,7 @@ module _ (stop : Unit → Unit → Cycle → Bool) (stops : (a b : Unit) (c : Cy
   tighter : EachLine λ Line. TighterBy Line NoDescriptorWrite stop
   tighter = (
     λ a b cs sa sb l f. cut cs a b (covers-unstopped a b cs (narrower sa sb l) (none cs a b f)),
-    λ a b cs sa sb l f. cut-line stop cs a b (nearer-unstopped .0 a b (narrower sa sb l) cs (none cs a b f)),
+    λ a b cs sa sb l f. nearer-cut stop cs a b (nearer-unstopped .0 a b (narrower sa sb l) cs (none cs a b f)),
   )
 
 pub demand-3 : Demand3
@@ -102,11 +102,11 @@ in-step-kept a b c h f x =
 pub narrower-covers : NarrowerCovers
 narrower-covers = (
   λ a b cs h f. cut inFirst (λ a b c e. e) cs a b (covers-unstopped a b cs h f),
-  λ a b cs h f. cut-line inFirst cs a b (nearer-unstopped .0 a b h cs f),
+  λ a b cs h f. nearer-cut inFirst cs a b (nearer-unstopped .0 a b h cs f),
 )
 
 pub writes-cover : WritesCover
 writes-cover = (
   λ a b cs h f. cut inFirst (λ a b c e. e) cs a b (covers-with-writes a b cs h f),
-  λ a b cs h f. cut-line inFirst cs a b (nearer-unstopped .1 a b h cs f),
+  λ a b cs h f. nearer-cut inFirst cs a b (nearer-unstopped .1 a b h cs f),
 )

@@ -6,7 +6,7 @@ use Prim.Native.Nat.{ℕ, _+_, _*_, _-_, _/_, _%_, _^_, _≤_, _<_}
 use native.Mathlib.Nat.{le-refl}
 use native.Mathlib.Omega.{arith}
 use lib.Dec.{eqb, ltb}
-use borrow.Author.Tests.{eqb-true, not-true}
+use borrow.Author.Tests.{eqb-true, ltb-true, not-true}
 use Rattle.rules.specs.Bus.{cpu, write, program}
 use Rattle.rules.specs.Entry.{replaced}
 use Rattle.rules.specs.Flags.{has, with, flagIf}
@@ -50,27 +50,25 @@ breaks-⇒ {x} {y} c w =
     (beyond-⇒ (has a DIRW) (has b DIRW) (x .limit) (y .limit) (c .offset) (w .direction) (w .up) (w .down))
     (and-⇒ _ _ (cpu c) (w .rights .1 .1 .0)) (and-⇒ _ _ (c .dma) (w .rights .1 .1 .1 .1 .0))
 
+-- past the limit the difference is 0 as well
+cut-off : (l o : ℕ) → cond (ltb l o) 0 (l - o) ≡ l - o
+cut-off l o = go (ltb l o) refl
+  where
+    go : (t : Bool) → ltb l o ≡ t → cond t 0 (l - o) ≡ l - o
+    go true e = omega (arith, ltb-true l o e)
+    go false e = refl
+
 -- in one direction the tighter is as near to its edge, or nearer
 pub nearer-blocks : {x y : Descriptor} (o : ℕ) → Wider x y → blocksLeft x o ≤ blocksLeft y o
 nearer-blocks {x} {y} o w = go (has (x .attributes) DIRW) (has (y .attributes) DIRW) (w .direction) (w .up) (w .down)
   where
-    left : (down : Bool) → (limit : ℕ) → ℕ
-    left down limit = cond (cond down (ltb o limit) (ltb limit o)) 0 (cond down (o - limit) (limit - o))
-
-    -- past the limit the difference is 0 as well
-    up : (l : ℕ) → left false l ≡ l - o
-    unfolding left
-    up l = ?
-
-    down : (l : ℕ) → left true l ≡ o - l
-    unfolding left
-    down l = ?
-
-    go : (t s : Bool) → t ≡ s → (t ≡ false → x .limit ≤ y .limit) → (t ≡ true → y .limit ≤ x .limit) → left t (x .limit) ≤ left s (y .limit)
-    go false false q f g = rw (up (x .limit), up (y .limit)) (omega (arith, f refl))
-    go true true q f g = rw (down (x .limit), down (y .limit)) (omega (arith, g refl))
-    go false true q f g = absurd (false≢true q)
-    go true false q f g = absurd (true≢false q)
+    go : (t s : Bool) → t ≡ s → (t ≡ false → x .limit ≤ y .limit) → (t ≡ true → y .limit ≤ x .limit)
+        → cond (cond t (ltb o (x .limit)) (ltb (x .limit) o)) 0 (cond t (o - x .limit) (x .limit - o))
+        ≤ cond (cond s (ltb o (y .limit)) (ltb (y .limit) o)) 0 (cond s (o - y .limit) (y .limit - o))
+    go false false q up down = rw (cut-off (x .limit) o, cut-off (y .limit) o) (omega (arith, up refl))
+    go true true q up down = rw (cut-off o (x .limit), cut-off o (y .limit)) (omega (arith, down refl))
+    go false true q up down = absurd (false≢true q)
+    go true false q up down = absurd (true≢false q)
 
 -- REF and CHG
 

@@ -2,21 +2,21 @@
 -- Assumes nothing.
 use mathlib.Core.Path.{_≡_}
 use mathlib.Core.Bool.{Bool, true, false, cond, not, _&&_}
+use mathlib.Core.List.{[], _∷_}
 use Prim.Native.Nat.{ℕ, _+_, _-_, _≤_, _<_}
 use lib.Dec.{eqb, leb, ltb}
 use Rattle.rules.specs.Bus.{cpu, write}
 use Rattle.rules.specs.Flags.{has}
 use Rattle.rules.specs.Masks.{RD, SYS, CPUI, EXC, DMAI, DIRW}
 use Rattle.rules.specs.Step.{stepped}
-use Rattle.rules.specs.declared.Answer.{Answer}
 use Rattle.rules.specs.declared.Cycle.{Cycle}
 use Rattle.rules.specs.declared.Descriptor.{Descriptor}
 use Rattle.rules.specs.declared.Unit.{Unit}
-use Rattle.theorems_runs.specs.Answers.{beyondLimit, breaks, translated, segmentOf}
-use Rattle.theorems_runs.specs.Narrower.{FromBy, Narrower, WritesNone, HoldsFirst}
-use Rattle.theorems_runs.specs.Answers.{SameMr}
+use Rattle.theorems_runs.specs.Answers.{segmentOf, beyondLimit, breaks, translated, SameMr}
 use Rattle.theorems_runs.specs.Descriptors.{descriptor}
+use Rattle.theorems_runs.specs.Narrower.{HoldsFirst, Narrower, WritesNone, FromBy}
 use Rattle.theorems_runs.specs.SegmentNumbers.{warning}
+use Rattle.theorems_runs.specs.Sequences.{_⇒_, Every}
 use Rattle.theorems_runs.specs.Tighter.{Nearer}
 use Rattle.theorems_runs.specs.Undamaged.{Undamaged}
 
@@ -55,12 +55,15 @@ WarnsAtTheEdge =
 abbrev pub BothTranslateNeeded : Type 0
 BothTranslateNeeded = FromBy (λ x y. x .distance ≤ y .distance) WritesNone Narrower → ⊥
 
--- every block of the one is one of the other, whatever their directions
-abbrev pub Within : Descriptor → Descriptor → Type 0
-Within x y = (o : ℕ) → o < 256 → beyondLimit x o ≡ false → beyondLimit y o ≡ false
+-- `Wider`, but by the blocks that are allowed, whatever the directions
+pub record Roomier (x y : Descriptor) : Type 0 where
+  pub base : x .base ≡ y .base
+  pub rights : Every (λ flag. has (y .attributes) flag ⇒ has (x .attributes) flag) (RD ∷ SYS ∷ CPUI ∷ EXC ∷ DMAI ∷ [])
+  pub blocks : (o : ℕ) → o < 256 → beyondLimit x o ≡ false → beyondLimit y o ≡ false
 
 -- CLAIM: that the directions are the same: with a table that allows more blocks in another direction the edge may be nearer.
 abbrev pub DirectionNeeded : Type 0
 DirectionNeeded =
-    FromBy Nearer WritesNone (λ a b. Undamaged a × Undamaged b × ((i : ℕ) → i < 64 → Within (descriptor a i) (descriptor b i)) × SameMr a b × HoldsFirst a b)
+    FromBy Nearer WritesNone
+    (λ a b. Undamaged a × Undamaged b × ((i : ℕ) → i < 64 → Roomier (descriptor a i) (descriptor b i)) × SameMr a b × HoldsFirst a b)
     → ⊥

@@ -8,13 +8,14 @@ use Rattle.text.proofs.lines.put_line.Tie as tie
 returns : tie.Need-returns
 unfolding lineOf
 returns c =
-    let at4 = c .before .before in
+    let at5 = c .before .before in
+    let at4 = at5 .before .before .before .before in
     let at3 = at4 .before .before .before .before in
     let at2 = at3 .before .before .before .before in
     let at1 = at2 .before .before .before .before in (
       then (at1 .put-opening .ensures .0)
           (then (at2 .put-address .ensures .0)
-          (then (at3 .put .ensures .0) (at4 .put-signals .ensures .0))),
+          (then (at3 .put .ensures .0) (then (at4 .put-signals .ensures .0) (at5 .put-ending .ensures .0)))),
       search needs,
     )
 
@@ -28,6 +29,8 @@ put-line-spec =
     (λ c. search needs)
     (λ c. search needs)
     (λ c. search needs)
+    (λ c. search needs)
+    (λ c κs. search needs)
     (λ c κs. search needs)
     (λ c κs. search needs)
     (λ c κs. search needs)

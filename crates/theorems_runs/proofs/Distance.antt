@@ -1,0 +1,166 @@
+-- What the distance means, from its exact equation; and what demand 3's line needs, by runs that antt computes.
+-- Assumes nothing.
+use mathlib.Core.Path.{_≡_, refl, sym, _∙_, ap, subst}
+use mathlib.Core.Bool.{Bool, true, false, cond, not, _&&_, _||_, false≢true}
+use mathlib.Core.List.{[], _∷_}
+use Prim.Native.Nat.{ℕ, zero, suc, _+_, _-_, _≤_, _<_}
+use native.Mathlib.Omega.{arith}
+use lib.Dec.{eqb, leb, ltb}
+use lib.ListN.{getD, replicate}
+use borrow.Author.Tests.{ltb-false, lt-ltb, le-ltb, leb-true, le-leb}
+use borrow.Author.Tests.{eqb-true, eqb-false, eq-eqb, ne-eqb}
+use Rattle.rules.specs.Bus.{cpu, write}
+use Rattle.rules.specs.Flags.{has}
+use Rattle.rules.specs.Masks.{RD, SYS, CPUI, EXC, DMAI, DIRW}
+use Rattle.rules.specs.PowerOn.{storedOf, notesOf, blank}
+use Rattle.rules.specs.Seen.{segment, standing, cycle}
+use Rattle.rules.specs.Step.{stepped}
+use Rattle.rules.specs.declared.Cycle.{Cycle}
+use Rattle.rules.specs.declared.Descriptor.{Descriptor}
+use Rattle.rules.specs.declared.Unit.{Unit}
+use Rattle.theorems_runs.specs.Answers.{beyondLimit, breaks, translated, segmentOf, blocksLeft}
+use Rattle.theorems_runs.specs.Distance.{Counts, DistanceCounts, WarnsAtTheEdge, BothTranslateNeeded, Roomier, DirectionNeeded}
+use Rattle.theorems_runs.specs.Narrower.{AlongBoth}
+use Rattle.theorems_runs.specs.Tighter.{before}
+use Rattle.theorems_runs.proofs.Answers.{distance-exactly}
+use Rattle.theorems_runs.proofs.Computed.{computed}
+use Rattle.theorems_runs.proofs.Examples.{unit, unit-undamaged}
+use Rattle.theorems_runs.proofs.Tests.{or-l, or-r}
+use Rattle.theorems_runs.proofs.Wider.{wider-refl}
+
+-- The blocks that are counted
+
+-- by the direction: `named`, `onward` and `beyondLimit` of the k-th block after o
+abbrev within : (down : Bool) → (o k : ℕ) → Bool
+within down o k = cond down (leb k o) (ltb (o + k) 256)
+
+abbrev past : (down : Bool) → (limit o k : ℕ) → Bool
+past down l o k = cond down (ltb (cond down (o - k) (o + k)) l) (ltb l (cond down (o - k) (o + k)))
+
+passes : (down : Bool) (l o k : ℕ) → l < 256 → cond down (ltb o l) (ltb l o) ≡ false → k ≤ cond down (o - l) (l - o)
+    → (within down o k ≡ true) × (past down l o k ≡ false)
+passes true l o k small e h =
+    let inside : l ≤ o = ltb-false o l e in (le-leb k o (omega arith), le-ltb (o - k) l (omega arith))
+passes false l o k small e h =
+    let inside : o ≤ l = ltb-false l o e in (lt-ltb (o + k) 256 (omega arith), le-ltb l (o + k) (omega arith))
+
+stops : (down : Bool) (l o : ℕ) → cond down (ltb o l) (ltb l o) ≡ false → within down o (cond down (o - l) (l - o) + 1) ≡ true
+    → past down l o (cond down (o - l) (l - o) + 1) ≡ true
+stops true l o e h =
+    let inside : l ≤ o = ltb-false o l e in
+    let room : o - l + 1 ≤ o = leb-true (o - l + 1) o h in
+    lt-ltb (o - (o - l + 1)) l (omega arith)
+stops false l o e h =
+    let inside : o ≤ l = ltb-false l o e in
+    lt-ltb l (o + (l - o + 1)) (omega arith)
+
+pub distance-counts : DistanceCounts
+distance-counts u c t e small =
+    let d : Descriptor = segmentOf u c in
+    let o : ℕ = c .offset in
+    let down : Bool = has (d .attributes) DIRW in
+    let left : stepped u c .answer .distance ≡ cond down (o - d .limit) (d .limit - o) =
+    distance-exactly u c
+    ∙ ap (λ (t : Bool). cond t (blocksLeft d o) 0) t
+    ∙ ap (λ (t : Bool). cond t 0 (cond down (o - d .limit) (d .limit - o))) e in
+    subst (λ (n : ℕ). Counts d o n) (sym left)
+    (record { pass = λ k h. passes down (d .limit) o k small e h; ends = stops down (d .limit) o e })
+
+-- The warning
+
+-- of a block of a stack, none are left exactly at the limit
+edge : (l o : ℕ) → l ≤ o → eqb o l ≡ eqb (o - l) 0
+edge l o h = go (eqb o l) refl
+  where
+    go : (t : Bool) → eqb o l ≡ t → t ≡ eqb (o - l) 0
+    go true e = let q : o ≡ l = eqb-true o l e in sym (eq-eqb (o - l) 0 (omega arith))
+    go false e = sym (ne-eqb (o - l) 0 (λ z. eqb-false o l e (omega arith)))
+
+-- what breaks no rule is within the limit
+inside-limit : (d : Descriptor) (c : Cycle) → breaks d c ≡ false → beyondLimit d (c .offset) ≡ false
+inside-limit d c b =
+    let a : ℕ = d .attributes in
+    let long : Bool = beyondLimit d (c .offset) in
+    let first : Bool = has a RD && write c || has a SYS && c .normal || has a EXC && not (eqb (c .status) 0xC || eqb (c .status) 0xD) in
+    or-r first long (or-l (first || long) (has a CPUI && cpu c) (or-l (first || long || has a CPUI && cpu c) (has a DMAI && c .dma) b))
+
+pub warns-at-the-edge : WarnsAtTheEdge
+warns-at-the-edge u c = go (translated u c) (breaks d c) (cpu c && write c) (has (d .attributes) DIRW) (eqb o (d .limit)) _ same
+  where
+    d : Descriptor
+    d = segmentOf u c
+
+    o : ℕ
+    o = c .offset
+
+    same : translated u c ≡ true → breaks d c ≡ false → has (d .attributes) DIRW ≡ true
+        → eqb o (d .limit) ≡ eqb (stepped u c .answer .distance) 0
+    same t b w =
+        let inside : beyondLimit d o ≡ false = inside-limit d c b in
+        let left : stepped u c .answer .distance ≡ o - d .limit =
+        distance-exactly u c
+        ∙ ap (λ (t : Bool). cond t (blocksLeft d o) 0) t
+        ∙ ap (λ (t : Bool). cond t 0 (cond (has (d .attributes) DIRW) (o - d .limit) (d .limit - o))) inside
+        ∙ ap (λ (t : Bool). cond t (o - d .limit) (d .limit - o)) w in
+        let under : ltb o (d .limit) ≡ false = subst (λ (t : Bool). cond t (ltb o (d .limit)) (ltb (d .limit) o) ≡ false) w inside in
+        edge (d .limit) o (ltb-false o (d .limit) under) ∙ ap (λ (n : ℕ). eqb n 0) (sym left)
+
+    go : (t b p w e f : Bool) → (t ≡ true → b ≡ false → w ≡ true → e ≡ f) → (t && not b && (p && w && e)) ≡ (t && not b && (p && w && f))
+    go false b p w e f h = refl
+    go true true p w e f h = refl
+    go true false false w e f h = refl
+    go true false true false e f h = refl
+    go true false true true e f h = h refl refl refl
+
+-- What demand 3's line needs
+
+-- await in the second unit alone: there a fetch of segment 0 at offset 0, with the limit %FF, is the aborted one
+fetching : (awaits : Bool) → Unit
+fetching awaits = standing (storedOf 0 0 0 0 0) (notesOf false awaits false false) (segment 0 0xFF 0)
+
+pub both-translate-needed : BothTranslateNeeded
+unfolding fetching before AlongBoth computed
+both-translate-needed claim =
+    absurd
+    (omega (
+      arith,
+      claim (fetching false) (fetching true) (cycle false true false 13 0 0 ∷ [])
+      (record {
+        first = record { size = refl; sound = refl };
+        second = record { size = refl; sound = refl };
+        table = λ i s. wider-refl _;
+        mr = refl;
+        hold = λ z. z;
+      })
+      (refl, refl) .0,
+    ))
+
+-- segment 0 ends at %80 in the first unit and is a stack of all 256 blocks in the second: block 0 is %80 blocks from the one's edge, and it is the
+-- other's
+upward : Descriptor
+upward = segment 0 0x80 0
+
+downward : Descriptor
+downward = segment 0 0 DIRW
+
+roomier : (i : ℕ) → i < 64
+    → Roomier (getD (upward ∷ blank ∷ blank ∷ replicate 61 blank) i blank) (getD (downward ∷ blank ∷ blank ∷ replicate 61 blank) i blank)
+unfolding upward downward
+roomier zero h =
+    record {
+      base = refl;
+      rights = (λ e. e, (λ e. e, (λ e. e, (λ e. e, (λ e. e, refl)))));
+      blocks = λ o s e. le-ltb o 0 (omega arith);
+    }
+roomier (suc i) h =
+    record { base = refl; rights = (λ e. e, (λ e. e, (λ e. e, (λ e. e, (λ e. e, refl))))); blocks = λ o s e. e }
+
+pub direction-needed : DirectionNeeded
+unfolding upward downward before AlongBoth computed
+direction-needed claim =
+    absurd
+    (omega (
+      arith,
+      claim (unit upward blank blank) (unit downward blank blank) (cycle false true false 8 0 0 ∷ [])
+      (unit-undamaged _ _ _, unit-undamaged _ _ _, roomier, refl, λ z. z) (refl, refl) .0 refl refl,
+    ))
