@@ -60,10 +60,10 @@ fn head(trace: &[u8]) {
 
 // The line of record n. It is made as record 0's, and the number is put in the 0's place.
 fn line(n: usize, a: Answer) {
-    let mut six = [0; unit_packed::BYTES];
-    unit_packed::put(&mut six, 0, a);
+    let mut packed = [0; unit_packed::BYTES];
+    unit_packed::put(&mut packed, 0, a);
     let mut line = [0; text::lines::LINE];
-    let end = text::lines::put_lines(&six, 1, &mut line, 0);
+    let end = text::lines::put_lines(&packed, 1, &mut line, 0);
     io::print_decimal(STDOUT_FILENO, n as u64);
     if 1 < end {
         text(&line[1..end]);

@@ -25,10 +25,10 @@ pub fn other(line: &[u8]) {
 
 // The answer, as mmurun's line of record 0 has it behind the number.
 fn answer(a: Answer) {
-    let mut six = [0; unit_packed::BYTES];
-    unit_packed::put(&mut six, 0, a);
+    let mut packed = [0; unit_packed::BYTES];
+    unit_packed::put(&mut packed, 0, a);
     let mut line = [0; text::lines::LINE];
-    let n = text::lines::put_lines(&six, 1, &mut line, 0);
+    let n = text::lines::put_lines(&packed, 1, &mut line, 0);
     if 3 < n {
         text(&line[2..n - 1]);
     }

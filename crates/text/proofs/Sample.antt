@@ -10,7 +10,7 @@ use Rattle.text.specs.Computed.{textComputed}
 use Rattle.text.specs.Text.{printed}
 
 -- "4D 42 54 00 01 00 09, then 830000C0 83000B23 83000B11 83000B20 83000B01 18001500 28001500 93000200 14000000"
-pub input : List ℕ
+abbrev pub input : List ℕ
 input =
     77 ∷ 66 ∷ 84 ∷ 0 ∷ 1 ∷ 0 ∷ 9
     ∷ 131 ∷ 0 ∷ 0 ∷ 192
@@ -24,7 +24,7 @@ input =
     ∷ 20 ∷ 0 ∷ 0 ∷ 0 ∷ []
 
 -- the ten lines, each with its line feed
-pub output : List ℕ
+abbrev pub output : List ℕ
 output =
     77 ∷ 66 ∷ 84 ∷ 32 ∷ 49 ∷ 32 ∷ 57 ∷ 10
     ∷ 48 ∷ 32 ∷ 67 ∷ 32 ∷ 45 ∷ 45 ∷ 45 ∷ 45 ∷ 32 ∷ 48 ∷ 32 ∷ 48 ∷ 32 ∷ 45 ∷ 45 ∷ 32 ∷ 48 ∷ 10
@@ -39,5 +39,5 @@ output =
     ∷ []
 
 pub sample : printed input ≡ output
-unfolding input output computed traceComputed textComputed
+unfolding computed traceComputed textComputed
 sample = refl

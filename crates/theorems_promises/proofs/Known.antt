@@ -11,6 +11,7 @@ use denote.Triple.Clauses.{AtExit}
 use lib.Dec.{ltb}
 use lib.ListN.{length, replicate}
 use lib.Seq.{sets}
+use Rattle.text.proofs.Sample.{input, output}
 use Rattle.text.specs.Listed.{filled, lengthOf}
 use Rattle.trace_reader.specs.declared.Found.{Found}
 use Rattle.trace_reader.specs.declared.Step.the-variants.{Record, No}
@@ -52,75 +53,48 @@ dataRead = cycleWith 8 true false false false 0 21 77 0 false
 abbrev dataWrite : Cycle
 dataWrite = cycleWith 8 false true false false 0 21 77 0 false
 
--- record 5: a system data read. The seventh byte of the lent answer is left
+-- record 5: a system data read, 11 blocks from the edge. The eighth byte of the lent answer is left
 pub distantarm-cycle-known : (κs : Lfts 2) (p q : ℕ × ℕ) (g h x : ℕ) (e : AtExit (endedOf 2 distantarm-cycle-k.ps distantarm-cycle-k.r) κs)
-    → distantarm-cycle.Learnt κs (lent p g (turnedOn 1), (lent q h (replicate 7 9), handed dataRead)) x e
-    → (x ≡ 0) × (now (e .0) ≡ turnedOn 129) × (now (e .1 .0) ≡ 84 ∷ 0 ∷ 35 ∷ 38 ∷ 1 ∷ 0 ∷ 9 ∷ [])
+    → distantarm-cycle.Learnt κs (lent p g (turnedOn 1), (lent q h (replicate 8 9), handed dataRead)) x e
+    → (x ≡ 0) × (now (e .0) ≡ turnedOn 129) × (now (e .1 .0) ≡ 84 ∷ 0 ∷ 35 ∷ 38 ∷ 1 ∷ 0 ∷ 11 ∷ 9 ∷ [])
 unfolding allComputed
 distantarm-cycle-known κs p q g h x e l = (l .says, l .leaves, l .shows)
 
 -- record 6: a normal data write, which RD forbids. VTR, VOFF, BCSR and the notes are stored, and the low byte over the older one
 pub distantarm-cycle-stores : (κs : Lfts 2) (p q : ℕ × ℕ) (g h x : ℕ) (e : AtExit (endedOf 2 distantarm-cycle-k.ps distantarm-cycle-k.r) κs)
-    → distantarm-cycle.Learnt κs (lent p g (turnedOn 129), (lent q h (replicate 6 9), handed dataWrite)) x e
-    → (x ≡ 0) × (now (e .0) ≡ 192 ∷ 0 ∷ 0 ∷ 1 ∷ 0 ∷ 21 ∷ 40 ∷ 0 ∷ 0 ∷ 15 ∷ behind 129 77) × (now (e .1 .0) ≡ 84 ∷ 0 ∷ 35 ∷ 38 ∷ 7 ∷ 0 ∷ [])
+    → distantarm-cycle.Learnt κs (lent p g (turnedOn 129), (lent q h (replicate 7 9), handed dataWrite)) x e
+    → (x ≡ 0) × (now (e .0) ≡ 192 ∷ 0 ∷ 0 ∷ 1 ∷ 0 ∷ 21 ∷ 40 ∷ 0 ∷ 0 ∷ 15 ∷ behind 129 77) × (now (e .1 .0) ≡ 84 ∷ 0 ∷ 35 ∷ 38 ∷ 7 ∷ 0 ∷ 11 ∷ [])
 unfolding allComputed
 distantarm-cycle-stores κs p q g h x e l = (l .says, l .leaves, l .shows)
 
 -- notes that no unit has: refusal 2, and every byte of the unit is left
 pub distantarm-cycle-strange : (κs : Lfts 2) (p q : ℕ × ℕ) (g h x : ℕ) (e : AtExit (endedOf 2 distantarm-cycle-k.ps distantarm-cycle-k.r) κs)
-    → distantarm-cycle.Learnt κs (lent p g (replicate 9 0 ++ (16 ∷ replicate 257 0)), (lent q h (replicate 6 9), handed dataRead)) x e
-    → (x ≡ 2) × (now (e .0) ≡ replicate 9 0 ++ (16 ∷ replicate 257 0)) × (now (e .1 .0) ≡ 88 ∷ 2 ∷ 0 ∷ 0 ∷ 0 ∷ 0 ∷ [])
+    → distantarm-cycle.Learnt κs (lent p g (replicate 9 0 ++ (16 ∷ replicate 257 0)), (lent q h (replicate 7 9), handed dataRead)) x e
+    → (x ≡ 2) × (now (e .0) ≡ replicate 9 0 ++ (16 ∷ replicate 257 0)) × (now (e .1 .0) ≡ 88 ∷ 2 ∷ 0 ∷ 0 ∷ 0 ∷ 0 ∷ 0 ∷ [])
 unfolding allComputed
 distantarm-cycle-strange κs p q g h x e l = (l .says, l .leaves, l .shows)
 
 -- the least room, and a byte less of either
 pub distantarm-cycle-room : (κs : Lfts 2) (p q : ℕ × ℕ) (g h x y z : ℕ)
     (d e f : AtExit (endedOf 2 distantarm-cycle-k.ps distantarm-cycle-k.r) κs)
-    → distantarm-cycle.Learnt κs (lent p g (replicate 267 0), (lent q h (replicate 6 9), handed dataRead)) x d
-    → distantarm-cycle.Learnt κs (lent p g (replicate 266 0), (lent q h (replicate 6 9), handed dataRead)) y e
-    → distantarm-cycle.Learnt κs (lent p g (replicate 267 0), (lent q h (replicate 5 9), handed dataRead)) z f
-    → (x ≡ 0) × ((y ≡ 255) × (now (e .0) ≡ replicate 266 0) × (now (e .1 .0) ≡ replicate 6 9))
-    × ((z ≡ 255) × (now (f .0) ≡ replicate 267 0) × (now (f .1 .0) ≡ replicate 5 9))
+    → distantarm-cycle.Learnt κs (lent p g (replicate 267 0), (lent q h (replicate 7 9), handed dataRead)) x d
+    → distantarm-cycle.Learnt κs (lent p g (replicate 266 0), (lent q h (replicate 7 9), handed dataRead)) y e
+    → distantarm-cycle.Learnt κs (lent p g (replicate 267 0), (lent q h (replicate 6 9), handed dataRead)) z f
+    → (x ≡ 0) × ((y ≡ 255) × (now (e .0) ≡ replicate 266 0) × (now (e .1 .0) ≡ replicate 7 9))
+    × ((z ≡ 255) × (now (f .0) ≡ replicate 267 0) × (now (f .1 .0) ≡ replicate 6 9))
 unfolding allComputed
 distantarm-cycle-room κs p q g h x y z d e f k l m = (k .says, (l .says, l .leaves, l .shows), (m .says, m .leaves, m .shows))
 
--- the text of the sample
-abbrev pub sample : List ℕ
-sample =
-    77 ∷ 66 ∷ 84 ∷ 0 ∷ 1 ∷ 0 ∷ 9
-    ∷ 131 ∷ 0 ∷ 0 ∷ 192
-    ∷ 131 ∷ 0 ∷ 11 ∷ 35
-    ∷ 131 ∷ 0 ∷ 11 ∷ 17
-    ∷ 131 ∷ 0 ∷ 11 ∷ 32
-    ∷ 131 ∷ 0 ∷ 11 ∷ 1
-    ∷ 24 ∷ 0 ∷ 21 ∷ 0
-    ∷ 40 ∷ 0 ∷ 21 ∷ 0
-    ∷ 147 ∷ 0 ∷ 2 ∷ 0
-    ∷ 20 ∷ 0 ∷ 0 ∷ 0 ∷ []
-
-abbrev pub text : List ℕ
-text =
-    77 ∷ 66 ∷ 84 ∷ 32 ∷ 49 ∷ 32 ∷ 57 ∷ 10
-    ∷ 48 ∷ 32 ∷ 67 ∷ 32 ∷ 45 ∷ 45 ∷ 45 ∷ 45 ∷ 32 ∷ 48 ∷ 32 ∷ 48 ∷ 32 ∷ 45 ∷ 45 ∷ 10
-    ∷ 49 ∷ 32 ∷ 67 ∷ 32 ∷ 45 ∷ 45 ∷ 45 ∷ 45 ∷ 32 ∷ 48 ∷ 32 ∷ 48 ∷ 32 ∷ 45 ∷ 45 ∷ 10
-    ∷ 50 ∷ 32 ∷ 67 ∷ 32 ∷ 45 ∷ 45 ∷ 45 ∷ 45 ∷ 32 ∷ 48 ∷ 32 ∷ 48 ∷ 32 ∷ 45 ∷ 45 ∷ 10
-    ∷ 51 ∷ 32 ∷ 67 ∷ 32 ∷ 45 ∷ 45 ∷ 45 ∷ 45 ∷ 32 ∷ 48 ∷ 32 ∷ 48 ∷ 32 ∷ 45 ∷ 45 ∷ 10
-    ∷ 52 ∷ 32 ∷ 67 ∷ 32 ∷ 45 ∷ 45 ∷ 45 ∷ 45 ∷ 32 ∷ 48 ∷ 32 ∷ 48 ∷ 32 ∷ 45 ∷ 45 ∷ 10
-    ∷ 53 ∷ 32 ∷ 84 ∷ 32 ∷ 50 ∷ 51 ∷ 50 ∷ 54 ∷ 32 ∷ 48 ∷ 32 ∷ 48 ∷ 32 ∷ 45 ∷ 45 ∷ 10
-    ∷ 54 ∷ 32 ∷ 84 ∷ 32 ∷ 50 ∷ 51 ∷ 50 ∷ 54 ∷ 32 ∷ 49 ∷ 32 ∷ 49 ∷ 32 ∷ 45 ∷ 45 ∷ 10
-    ∷ 55 ∷ 32 ∷ 67 ∷ 32 ∷ 45 ∷ 45 ∷ 45 ∷ 45 ∷ 32 ∷ 48 ∷ 32 ∷ 49 ∷ 32 ∷ 48 ∷ 49 ∷ 10
-    ∷ 56 ∷ 32 ∷ 65 ∷ 32 ∷ 45 ∷ 45 ∷ 45 ∷ 45 ∷ 32 ∷ 48 ∷ 32 ∷ 48 ∷ 32 ∷ 48 ∷ 49 ∷ 10 ∷ []
-
--- in a buffer with room, and in one without
+-- the text of the sample, in a buffer with room, and in one without
 pub distantarm-list-known : (κs : Lfts 2) (p q : ℕ × ℕ) (g h x : ℕ) (l : List ℕ)
     (e : AtExit (endedOf 2 distantarm-list-k.ps distantarm-list-k.r) κs)
-    → distantarm-list.Learnt κs (lent p g sample, (lent q h l, tt)) x e
-    → (ltb (length l) 400012 ≡ false → (x ≡ 152) × (now (e .1 .0) ≡ sets l 0 text))
-    × (ltb (length l) 400012 ≡ true → (x ≡ 0) × (now (e .1 .0) ≡ l))
+    → distantarm-list.Learnt κs (lent p g input, (lent q h l, tt)) x e
+    → (ltb (length l) 496012 ≡ false → (x ≡ 172) × (now (e .1 .0) ≡ sets l 0 output))
+    × (ltb (length l) 496012 ≡ true → (x ≡ 0) × (now (e .1 .0) ≡ l))
 unfolding allComputed
 distantarm-list-known κs p q g h x l e s = (
-  λ wide. (s .count ∙ ap (λ (b : Bool). lengthOf b sample) wide, s .text ∙ ap (λ (b : Bool). filled b sample l) wide),
-  λ short. (s .count ∙ ap (λ (b : Bool). lengthOf b sample) short, s .text ∙ ap (λ (b : Bool). filled b sample l) short),
+  λ wide. (s .count ∙ ap (λ (b : Bool). lengthOf b input) wide, s .text ∙ ap (λ (b : Bool). filled b input l) wide),
+  λ short. (s .count ∙ ap (λ (b : Bool). lengthOf b input) short, s .text ∙ ap (λ (b : Bool). filled b input l) short),
 )
 
 -- a byte more than a unit has, as many, and a byte less
@@ -136,18 +110,18 @@ distantarm-power-on-known κs p g x y z d e f k l m = ((k .says, k .leaves), (l 
 
 -- record 5 of the sample, and none past its count
 pub shown-at-known : (κs : Lfts 1) (p : ℕ × ℕ) (g : ℕ) (x y : RefT (List ℕ)) (e f : AtExit (endedOf 1 shown-at-k.ps shown-at-k.r) κs)
-    → shown-at.Learnt κs (lent p g sample, (5, tt)) x e → shown-at.Learnt κs (lent p g sample, (9, tt)) y f
+    → shown-at.Learnt κs (lent p g input, (5, tt)) x e → shown-at.Learnt κs (lent p g input, (9, tt)) y f
     → (now x ≡ 24 ∷ 0 ∷ 21 ∷ 0 ∷ []) × (x .ptr ≡ (p .0, 27 + p .1)) × (now y ≡ []) × (y .ptr ≡ (p .0, 0 + p .1))
 unfolding allComputed
 shown-at-known κs p g x y e f l m = (l .0, l .1, m .0, m .1)
 
 pub read-at-known : (κs : Lfts 1) (p : ℕ × ℕ) (g : ℕ) (x y : Found) (e f : AtExit (endedOf 1 read-at-k.ps read-at-k.r) κs)
-    → read-at.Learnt κs (lent p g sample, (5, tt)) x e → read-at.Learnt κs (lent p g sample, (9, tt)) y f
+    → read-at.Learnt κs (lent p g input, (5, tt)) x e → read-at.Learnt κs (lent p g input, (9, tt)) y f
     → (x ≡ record { step = Record (cycleWith 8 true false false false 0 21 0 0 false); next = 6 }) × (y ≡ record { step = No 9; next = 9 })
 unfolding allComputed
 read-at-known κs p g x y e f l m = (
-  finds-only sample 5 x (record { step = Record (cycleWith 8 true false false false 0 21 0 0 false); next = 6 }) l ((refl, refl), refl),
-  finds-only sample 9 y (record { step = No 9; next = 9 }) m ((refl, refl), refl),
+  finds-only input 5 x (record { step = Record (cycleWith 8 true false false false 0 21 0 0 false); next = 6 }) l ((refl, refl), refl),
+  finds-only input 9 y (record { step = No 9; next = 9 }) m ((refl, refl), refl),
 )
 
 -- the same cycle, on the unit record
@@ -155,7 +129,7 @@ pub step-by-lending-known : (κs : Lfts 0) (s : Stepped) (e : AtExit (endedOf 0 
     → step-by-lending.Learnt κs (translating (segment 8977 32 1), (cycle false true false 8 0 21, tt)) s e
     → s ≡ record {
       unit = translating (segment 8977 32 129);
-      answer = translated 8998 false false;
+      answer = translated 8998 false false 11;
     }
 unfolding allComputed
 step-by-lending-known κs s e l = l
