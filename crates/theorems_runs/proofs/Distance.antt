@@ -7,7 +7,7 @@ use Prim.Native.Nat.{ℕ, zero, suc, _+_, _-_, _≤_, _<_}
 use native.Mathlib.Omega.{arith}
 use lib.Dec.{eqb, leb, ltb}
 use lib.ListN.{getD, replicate}
-use borrow.Author.Tests.{ltb-false, lt-ltb, le-ltb, leb-true, le-leb}
+use borrow.Author.Tests.{ltb-true, ltb-false, lt-ltb, le-ltb, leb-true, le-leb}
 use borrow.Author.Tests.{eqb-true, eqb-false, eq-eqb, ne-eqb}
 use Rattle.rules.specs.Bus.{cpu, write}
 use Rattle.rules.specs.Flags.{has}
@@ -19,7 +19,7 @@ use Rattle.rules.specs.declared.Cycle.{Cycle}
 use Rattle.rules.specs.declared.Descriptor.{Descriptor}
 use Rattle.rules.specs.declared.Unit.{Unit}
 use Rattle.theorems_runs.specs.Answers.{beyondLimit, breaks, translated, segmentOf, blocksLeft}
-use Rattle.theorems_runs.specs.Distance.{Counts, DistanceCounts, WarnsAtTheEdge, BothTranslateNeeded, Roomier, DirectionNeeded}
+use Rattle.theorems_runs.specs.Distance.{Counts, DistanceCounts, CountsOnce, WarnsAtTheEdge, BothTranslateNeeded, Roomier, DirectionNeeded}
 use Rattle.theorems_runs.specs.Narrower.{AlongBoth}
 use Rattle.theorems_runs.specs.Tighter.{before}
 use Rattle.theorems_runs.proofs.Answers.{distance-exactly}
@@ -65,6 +65,20 @@ distance-counts u c t e small =
     ∙ ap (λ (t : Bool). cond t 0 (cond down (o - d .limit) (d .limit - o))) e in
     subst (λ (n : ℕ). Counts d o n) (sym left)
     (record { pass = λ k h. passes down (d .limit) o k small e h; ends = stops down (d .limit) o e })
+
+-- a larger number would have the block pass at which the smaller one ends
+pub counts-once : CountsOnce
+counts-once d o n m x y = go (ltb n m) (ltb m n) refl refl
+  where
+    apart : (k j : ℕ) → k < j → Counts d o k → Counts d o j → ⊥
+    apart k j h p q =
+        let next : _ = q .pass (k + 1) (omega arith) in
+        false≢true (sym (next .1) ∙ p .ends (next .0))
+
+    go : (s t : Bool) → ltb n m ≡ s → ltb m n ≡ t → n ≡ m
+    go true t e f = absurd (apart n m (ltb-true n m e) x y)
+    go false true e f = absurd (apart m n (ltb-true m n f) y x)
+    go false false e f = let a : m ≤ n = ltb-false n m e in let b : n ≤ m = ltb-false m n f in omega arith
 
 -- The warning
 
@@ -114,9 +128,9 @@ warns-at-the-edge u c = go (translated u c) (breaks d c) (cpu c && write c) (has
 
 -- What demand 3's line needs
 
--- await in the second unit alone: there a fetch of segment 0 at offset 0, with the limit %FF, is the aborted one
+-- await in the second unit alone: there a fetch of segment 0 at offset 0, with the limit 1, is the aborted one
 fetching : (awaits : Bool) → Unit
-fetching awaits = standing (storedOf 0 0 0 0 0) (notesOf false awaits false false) (segment 0 0xFF 0)
+fetching awaits = standing (storedOf 0 0 0 0 0) (notesOf false awaits false false) (segment 0 1 0)
 
 pub both-translate-needed : BothTranslateNeeded
 unfolding fetching before AlongBoth computed
@@ -125,20 +139,20 @@ both-translate-needed claim =
     (omega (
       arith,
       claim (fetching false) (fetching true) (cycle false true false 13 0 0 ∷ [])
-      (record {
-        first = record { size = refl; sound = refl };
-        second = record { size = refl; sound = refl };
-        table = λ i s. wider-refl _;
-        mr = refl;
-        hold = λ z. z;
-      })
-      (refl, refl) .0,
+          (record {
+            first = record { size = refl; sound = refl };
+            second = record { size = refl; sound = refl };
+            table = λ i s. wider-refl _;
+            mr = refl;
+            hold = λ z. z;
+          })
+          (refl, refl) .0,
     ))
 
--- segment 0 ends at %80 in the first unit and is a stack of all 256 blocks in the second: block 0 is %80 blocks from the one's edge, and it is the
+-- segment 0 ends at block 1 in the first unit and is a stack of all 256 blocks in the second: block 0 is a block from the one's edge, and it is the
 -- other's
 upward : Descriptor
-upward = segment 0 0x80 0
+upward = segment 0 1 0
 
 downward : Descriptor
 downward = segment 0 0 DIRW
@@ -162,5 +176,5 @@ direction-needed claim =
     (omega (
       arith,
       claim (unit upward blank blank) (unit downward blank blank) (cycle false true false 8 0 0 ∷ [])
-      (unit-undamaged _ _ _, unit-undamaged _ _ _, roomier, refl, λ z. z) (refl, refl) .0 refl refl,
+          (unit-undamaged _ _ _, unit-undamaged _ _ _, roomier, refl, λ z. z) (refl, refl) .0 refl refl,
     ))

@@ -41,6 +41,10 @@ DistanceCounts =
     (u : Unit) (c : Cycle) → translated u c ≡ true → beyondLimit (segmentOf u c) (c .offset) ≡ false → segmentOf u c .limit < 256
     → Counts (segmentOf u c) (c .offset) (stepped u c .answer .distance)
 
+-- CLAIM: no other number says that of a block.
+abbrev pub CountsOnce : Type 0
+CountsOnce = (d : Descriptor) (o n m : ℕ) → Counts d o n → Counts d o m → n ≡ m
+
 -- CLAIM: a CPU write without violation warns exactly with DIRW set and distance 0. `warning` says it by the offset byte and the limit.
 abbrev pub WarnsAtTheEdge : Type 0
 WarnsAtTheEdge =
