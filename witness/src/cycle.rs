@@ -64,7 +64,7 @@ pub struct Answer {
 }
 
 impl Answer {
-    /// Nothing driven, SUP off, the trap line as given, no distance.
+    /// Nothing driven, SUP off, the trap line as given, distance 0.
     pub fn quiet(kind: Kind, trap: bool) -> Answer {
         Answer {
             kind,

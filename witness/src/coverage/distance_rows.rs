@@ -38,14 +38,7 @@ pub fn rows() -> Vec<Row> {
 
 /// Small and large ones, with one digit, with two, with three, and with bit 7.
 fn measured(name: &str, stack: bool) -> Vec<Row> {
-    let ranges = [
-        (1, 1),
-        (2, 9),
-        (10, 99),
-        (100, 254),
-        (128, 254),
-        (255, 255),
-    ];
+    let ranges = [(1, 1), (2, 9), (10, 99), (100, 254), (128, 254), (255, 255)];
     let row = |(least, most): (u8, u8)| {
         let range = match least == most {
             true => least.to_string(),

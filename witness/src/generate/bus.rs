@@ -47,7 +47,8 @@ impl Bus {
         Document01::step(&mut self.unit, &cycle)
     }
 
-    /// A selected command. Mode, segment and a read's data mean nothing to it.
+    /// A selected command. Mode, segment and a read's data mean nothing to it; a
+    /// segment that has room shows that it carries no distance.
     pub fn command(&mut self, code: u8, read: bool, data: u8) {
         let cycle = Cycle {
             status: 0x3,

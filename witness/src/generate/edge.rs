@@ -1,12 +1,13 @@
-//! How near the edge is: accesses that come nearer and nearer.
+//! How near the edge is: a scene of accesses that come nearer and nearer.
 
 use crate::cycle::Cycle;
 use crate::unit::{attribute, Descriptor};
 
 use super::bus::Bus;
 
-/// Accesses of any kind in one segment, each nearer its edge than the last,
-/// then at the edge and a block past it.
+/// Accesses of any kind in one segment, from as far as it goes or from nearby,
+/// none further from its edge than the last; then at the edge and a block past
+/// it.
 pub fn approach(bus: &mut Bus) {
     let segment = bus.segment();
     let descriptor = bus.unit.table[usize::from(segment % 64)];
@@ -30,7 +31,7 @@ fn push(bus: &mut Bus, segment: u8, offset: u8) {
     bus.push(cycle);
 }
 
-/// An offset with so much room, or with as much as the segment has.
+/// An offset with so much room, or with as much as there is.
 fn inside(descriptor: &Descriptor, room: u8) -> u8 {
     match descriptor.has(attribute::DIRW) {
         true => descriptor.limit.saturating_add(room),
@@ -38,7 +39,8 @@ fn inside(descriptor: &Descriptor, room: u8) -> u8 {
     }
 }
 
-/// The block past the last permitted one, or the first if there is none.
+/// The block past the last permitted one. Past block 255 that is block 0, and
+/// below block 0 block 255; both are permitted.
 fn past(descriptor: &Descriptor) -> u8 {
     match descriptor.has(attribute::DIRW) {
         true => descriptor.limit.wrapping_sub(1),

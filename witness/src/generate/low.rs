@@ -124,12 +124,14 @@ fn dma_violation(bus: &mut Bus) {
     });
 }
 
-/// Two registers, one of them often VOFF.
+/// Any register, one of two that nothing else reads often, and often VOFF.
 fn read(bus: &mut Bus) {
-    let register = bus.random.byte() % 8;
-    bus.read(register);
-    let code = bus.random.pick(&[code::VOFF, code::DSCR, register]);
-    bus.read(code);
+    let any = bus.random.byte() % 8;
+    let seldom = bus.random.pick(&[code::MR, code::SAR]);
+    let last = bus.random.pick(&[code::VOFF, code::DSCR, any]);
+    for code in [any, seldom, last] {
+        bus.read(code);
+    }
 }
 
 /// A register that can be written; MR as it is, so that the unit goes on.

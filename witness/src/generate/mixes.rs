@@ -46,7 +46,7 @@ fn program(random: &mut Random, open: bool, records: &mut Vec<Record>) {
         };
         write(0x0F, attributes);
     }
-    write(0x00, 0xC0 | random.byte() % 8);
+    write(0x00, 0xC0 | (random.byte() % 8));
 }
 
 fn next(mix: usize, random: &mut Random) -> Record {
@@ -78,7 +78,7 @@ fn memory(random: &mut Random, lower_half: bool) -> Record {
             | u8::from(read) << 4
             | u8::from(random.coin()) << 5
             | u8::from(dma) << 6,
-        random.byte() % 64 | half,
+        (random.byte() % 64) | half,
         random.byte() & near,
         random.byte(),
     ]
@@ -101,7 +101,7 @@ fn command(random: &mut Random) -> Record {
         _ => random.coin(),
     };
     let byte = random.byte();
-    let byte = if code == 0 { 0xC0 | byte % 8 } else { byte };
+    let byte = if code == 0 { 0xC0 | (byte % 8) } else { byte };
     [0x83 | u8::from(read) << 4, random.byte() % 128, code, byte]
 }
 
@@ -111,7 +111,7 @@ fn noise(random: &mut Random) -> Record {
     let codes = if random.coin() { 0x0F } else { 0xFF };
     [
         random.byte(),
-        random.byte() % 128 | reset,
+        (random.byte() % 128) | reset,
         random.byte() & codes,
         random.byte(),
     ]

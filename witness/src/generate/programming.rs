@@ -219,7 +219,7 @@ pub fn reset(bus: &mut Bus) {
         normal: bus.random.coin(),
         dma: bus.random.once_in(4),
         select: bus.random.coin(),
-        segment: bus.random.byte() % 128,
+        segment: bus.segment(),
         offset: bus.random.byte(),
         data: bus.random.byte(),
         reset: true,

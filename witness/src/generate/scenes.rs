@@ -181,7 +181,8 @@ pub fn without_translation(bus: &mut Bus) {
     bus.write(code::MR, mr);
 }
 
-/// DMA cycles, aimed at limits as the CPU's are, and the marks they leave.
+/// DMA cycles, aimed at limits as the CPU's are, the marks they leave, and two
+/// registers that they leave alone.
 pub fn dma(bus: &mut Bus) {
     if bus.random.once_in(3) {
         event(bus);
@@ -197,6 +198,7 @@ pub fn dma(bus: &mut Bus) {
         }
     }
     bus.read(code::VTR);
+    bus.read(code::ISN);
 }
 
 /// Any cycle at all, with command codes mostly listed.

@@ -16,7 +16,8 @@ use super::story::story;
 use super::{CASES, SCRIPTS};
 
 /// A kind stands here as often as it should come. Two are damaged units, which
-/// go nowhere, so sane ones come twice, once to go to the edges of segments.
+/// go nowhere, so sane ones come twice, the second time to go on to the edges of
+/// segments.
 const KINDS: [&str; 8] = [
     "sane", "orphan", "edge", "damaged", "range", "any", "story", "low",
 ];
@@ -77,12 +78,8 @@ fn scene(mut random: Random, kind: &str) -> Scene {
     let unit = bus.unit.clone();
     match kind {
         "low" => kept(&mut bus),
+        "edge" => edges(&mut bus),
         _ => cycles(&mut bus, kind),
-    }
-    if kind == "edge" {
-        for _ in 0..3 {
-            approach(&mut bus);
-        }
     }
     Scene {
         unit,
@@ -101,6 +98,14 @@ fn cycles(bus: &mut Bus, kind: &str) {
             _ => cycle,
         };
         bus.push(cycle);
+    }
+}
+
+/// A few cycles of a sane unit, then segments up to their edges.
+fn edges(bus: &mut Bus) {
+    cycles(bus, "sane");
+    for _ in 0..bus.random.between(3, 5) {
+        approach(bus);
     }
 }
 

@@ -1,23 +1,23 @@
 //! How near the edge is, ticket 5: every translated cycle that is not an
 //! aborted fetch carries it, whatever else is found, and every other answer 0.
 
-use witness::checks::Checks;
+use witness::checks::{Checks, Finding};
 use witness::commands::code::CLEAR_VTR;
 use witness::coverage::distance_rows;
 use witness::cycle::{Cycle, Kind};
-use witness::unit::attribute::{DIRW, RD};
+use witness::generate::bus::finding;
+use witness::unit::attribute::DIRW;
+use witness::unit::violation::{PWW, RDV};
 use witness::unit::{mode, Descriptor, Unit};
 use witness::Document01;
 
+use crate::others::aborted;
 use crate::pairs::{every_turn, is, Pair, Turn, Wanted};
 use crate::refusals::{command, standing};
 use crate::rows::{acknowledge, read, step, unit, write, TRANSLATES};
 use crate::scripted::meet_often;
 
-/// Both directions, as attributes.
-const DIRECTIONS: [u8; 2] = [0, DIRW];
-
-fn segment(limit: u8, attributes: u8) -> Descriptor {
+pub fn segment(limit: u8, attributes: u8) -> Descriptor {
     Descriptor {
         base: 0,
         limit,
@@ -35,15 +35,15 @@ fn left(descriptor: &Descriptor, offset: u8) -> u8 {
     u8::try_from(blocks).unwrap_or(0)
 }
 
-fn carried(limit: u8, attributes: u8, cycle: Cycle) -> u8 {
-    let mut unit = unit(TRANSLATES, 0, (0, limit, attributes));
+fn carried(descriptor: &Descriptor, cycle: Cycle) -> u8 {
+    let mut unit = unit(TRANSLATES, 0, (0, descriptor.limit, descriptor.attributes));
     step(&mut unit, cycle).distance
 }
 
 /// Every limit, offset and direction.
 fn everywhere(holds: fn(&Descriptor, u8) -> bool) {
     for limit in 0..=0xFF {
-        for descriptor in DIRECTIONS.map(|attributes| segment(limit, attributes)) {
+        for descriptor in [0, DIRW].map(|attributes| segment(limit, attributes)) {
             for offset in 0..=0xFF {
                 assert!(holds(&descriptor, offset), "{descriptor:?} {offset}");
             }
@@ -54,66 +54,64 @@ fn everywhere(holds: fn(&Descriptor, u8) -> bool) {
 #[test]
 fn it_is_limit_less_offset_or_offset_less_limit_with_dirw_or_0() {
     everywhere(|descriptor, offset| {
-        let Descriptor {
-            limit, attributes, ..
-        } = *descriptor;
-        carried(limit, attributes, read(0, offset)) == left(descriptor, offset)
+        carried(descriptor, read(0, offset)) == left(descriptor, offset)
     });
 }
 
-/// What it means: so many further blocks are permitted in the direction.
+/// What it means. So many blocks after the accessed one in the segment's
+/// direction pass the length check, and the next does not or is no block at all.
 #[test]
-fn it_counts_the_permitted_blocks_past_the_accessed_one() {
+fn so_many_blocks_after_the_accessed_one_pass_and_the_next_does_not() {
     everywhere(|descriptor, offset| {
-        let past = match descriptor.has(DIRW) {
-            true => 0..i16::from(offset),
-            false => i16::from(offset) + 1..256,
+        let next = |&block: &u8| match descriptor.has(DIRW) {
+            true => block.checked_sub(1),
+            false => block.checked_add(1),
         };
-        let permitted = past.filter(|&block| {
-            let cycle = read(0, block as u8);
-            !Document01::outside(descriptor, &cycle)
-        });
-        permitted.count() == usize::from(left(descriptor, offset))
+        let blocks = std::iter::successors(Some(offset), next).skip(1);
+        let passing = blocks.take_while(|&block| !Document01::outside(descriptor, &read(0, block)));
+        passing.count() == usize::from(carried(descriptor, read(0, offset)))
     });
 }
 
 #[test]
 fn near_the_edge_block_by_block() {
-    for (offset, blocks) in [(0x00, 2), (0x01, 1), (0x02, 0), (0x03, 0), (0xFF, 0)] {
-        assert_eq!(carried(0x02, 0, write(0, offset)), blocks, "{offset:02X}");
-    }
-    for (offset, blocks) in [(0xFF, 15), (0xF1, 1), (0xF0, 0), (0xEF, 0), (0x00, 0)] {
-        assert_eq!(
-            carried(0xF0, DIRW, write(0, offset)),
-            blocks,
-            "{offset:02X}"
-        );
+    let upward = [(0x00, 2), (0x01, 1), (0x02, 0), (0x03, 0), (0xFF, 0)];
+    let downward = [(0xFF, 15), (0xF1, 1), (0xF0, 0), (0xEF, 0), (0x00, 0)];
+    for (descriptor, blocks) in [(segment(0x02, 0), upward), (segment(0xF0, DIRW), downward)] {
+        for (offset, distance) in blocks {
+            let carried = carried(&descriptor, write(0, offset));
+            assert_eq!(carried, distance, "{descriptor:?} {offset:02X}");
+        }
     }
 }
 
-/// Attributes, status, direction, mode, master, VTR and notes: nothing but
-/// DIRW, and an aborted fetch carries 0.
+/// Any status, direction, mode and master.
+fn memory_cycles(segment: u8, offset: u8) -> impl Iterator<Item = Cycle> {
+    (0..48).map(move |number| Cycle {
+        status: 0x8 + number / 8,
+        read: number & 1 != 0,
+        normal: number & 2 != 0,
+        dma: number & 4 != 0,
+        ..read(segment, offset)
+    })
+}
+
+/// Not flags, notes or VTR, not what the cycle is and what is found in it: DIRW
+/// alone, and whether it is an aborted fetch.
 #[test]
 fn nothing_else_that_is_found_or_stands_changes_it() {
     for (attributes, notes) in (0..=0xFF).flat_map(|byte| (0..16).map(move |notes| (byte, notes))) {
-        let mut before = standing(attributes & RD, notes);
-        before.table[0] = segment(0x20, attributes);
-        before.table[1] = segment(0x15, attributes);
-        for (status, flags) in (0x8..=0xD).flat_map(|status| (0..8).map(move |f| (status, f))) {
-            let cycle = |segment: u8, offset: u8| Cycle {
-                status,
-                read: flags & 1 != 0,
-                normal: flags & 2 != 0,
-                dma: flags & 4 != 0,
-                ..read(segment, offset)
-            };
-            for cycle in [cycle(0, 0x15), cycle(1, 0x20)] {
+        for vtr in [0, RDV] {
+            let mut before = standing(vtr, notes);
+            // One of the two has room and the other none, as DIRW says.
+            before.table[0] = segment(0x20, attributes);
+            before.table[1] = segment(0x15, attributes);
+            for cycle in memory_cycles(0, 0x15).chain(memory_cycles(1, 0x20)) {
                 let answer = step(&mut before.clone(), cycle);
-                let aborted = before.awaits && status == 0xD && flags & 5 == 1;
-                let inside = (cycle.segment == 1) == (attributes & DIRW != 0);
-                let expected = match aborted {
+                let descriptor = &before.table[usize::from(cycle.segment)];
+                let expected = match aborted(&before, &cycle) {
                     true => (Kind::AbortedFetch, 0),
-                    false => (Kind::Translated, if inside { 11 } else { 0 }),
+                    false => (Kind::Translated, left(descriptor, cycle.offset)),
                 };
                 assert_eq!((answer.kind, answer.distance), expected, "{cycle:?}");
             }
@@ -121,47 +119,49 @@ fn nothing_else_that_is_found_or_stands_changes_it() {
     }
 }
 
-/// Every cycle here names a segment that has room at its offset.
-#[test]
-fn every_other_answer_carries_0() {
-    let fetch = Cycle {
-        status: 0xD,
+/// A cycle with this status that names a segment with room at its offset.
+fn roomy(status: u8) -> Cycle {
+    Cycle {
+        status,
         ..read(0, 1)
-    };
+    }
+}
+
+/// Cycles of all kinds but T, with MR, in a unit whose await stands.
+fn others() -> [(u8, Cycle, Kind); 14] {
     let reset = Cycle {
         reset: true,
-        ..read(0, 1)
-    };
-    let ignored = Cycle {
-        status: 0xE,
-        ..read(0, 1)
+        ..roomy(0x8)
     };
     let beyond = Cycle {
         segment: 128,
-        ..read(0, 1)
+        ..roomy(0x8)
     };
-    let off = |flags: u8| TRANSLATES & !flags;
-    let answers = [
-        (off(mode::TRNS), read(0, 1), Kind::Passed),
-        (off(mode::MSEN), read(0, 1), Kind::Ignored),
-        (TRANSLATES | mode::URS, read(0, 1), Kind::Ignored),
-        (
-            TRANSLATES | mode::MST | mode::NMS,
-            read(0, 1),
-            Kind::Ignored,
-        ),
-        (TRANSLATES, fetch, Kind::AbortedFetch),
-        (off(mode::TRNS), fetch, Kind::AbortedFetch),
+    let passes = mode::MSEN;
+    let other_range = TRANSLATES | mode::URS;
+    let other_mode = TRANSLATES | mode::MST | mode::NMS;
+    [
+        (passes, roomy(0x8), Kind::Passed),
+        (mode::TRNS, roomy(0x8), Kind::Ignored),
+        (other_range, roomy(0x8), Kind::Ignored),
+        (other_mode, roomy(0x8), Kind::Ignored),
+        (TRANSLATES, roomy(0xE), Kind::Ignored),
+        (TRANSLATES, roomy(0xD), Kind::AbortedFetch),
+        (passes, roomy(0xD), Kind::AbortedFetch),
         (TRANSLATES, reset, Kind::Reset),
         (TRANSLATES, acknowledge(), Kind::Acknowledge),
         (TRANSLATES, command(CLEAR_VTR, false), Kind::Command),
         (TRANSLATES, command(0x09, true), Kind::Command),
-        (TRANSLATES, ignored, Kind::Ignored),
         (TRANSLATES, beyond, Kind::Refused(1)),
         (TRANSLATES, command(0x12, true), Kind::Refused(3)),
         (TRANSLATES, command(CLEAR_VTR, true), Kind::Refused(4)),
-    ];
-    for (mr, cycle, kind) in answers {
+    ]
+}
+
+/// And so does a damaged unit's, whatever the cycle.
+#[test]
+fn every_other_answer_carries_0() {
+    for (mr, cycle, kind) in others() {
         let mut unit = unit(mr, 0, (0x1000, 0xFF, 0));
         unit.awaits = true;
         let damaged = Unit {
@@ -185,34 +185,15 @@ fn it_is_printed_in_decimal_at_the_end() {
     }
 }
 
-/// Demand 3's line: of two segments of one direction the one that permits more
-/// is nowhere nearer its edge.
-#[test]
-fn a_wider_segment_leaves_no_less() {
-    for (narrow, wide) in (0..=0xFF).flat_map(|wide| (0..=wide).map(move |narrow| (narrow, wide))) {
-        let upward = [narrow, wide].map(|limit| segment(limit, 0));
-        let downward = [wide, narrow].map(|limit| segment(limit, DIRW));
-        for pair in [upward, downward] {
-            for cycle in (0..=0xFF).map(|offset| read(0, offset)) {
-                let inside = pair.iter().all(|one| !Document01::outside(one, &cycle));
-                let [less, more] = pair.map(|one| Document01::distance(&one, &cycle));
-                assert!(!inside || less <= more, "{pair:?} {cycle:?}");
-            }
-        }
-    }
-}
-
-/// What the cycle's segment has left, as its descriptor stood.
+/// What the cycle's segment has left, whether the answer carries it or not.
 fn room(turn: &Turn) -> u8 {
-    let descriptor = &turn.before.table[usize::from(turn.cycle.segment % 64)];
-    left(descriptor, turn.cycle.offset)
+    left(turn.descriptor(), turn.cycle.offset)
 }
 
 fn carries(_pair: &Pair, turn: &Turn) -> bool {
-    let carried = if is(turn, Kind::Translated) {
-        room(turn)
-    } else {
-        0
+    let carried = match is(turn, Kind::Translated) {
+        true => room(turn),
+        false => 0,
     };
     turn.answers[0].distance == carried
 }
@@ -260,6 +241,77 @@ const CARRIED: &[Wanted] = &[
 #[test]
 fn in_any_run_translated_cycles_alone_carry_it() {
     every_turn(|_, _| true, carries, CARRIED);
+}
+
+/// What the unit found, if it translated the cycle.
+fn found(turn: &Turn) -> Option<Finding> {
+    finding(&turn.before, &turn.cycle).filter(|_| is(turn, Kind::Translated))
+}
+
+fn warned(turn: &Turn) -> bool {
+    found(turn) == Some(Finding::Warning)
+}
+
+fn without_violation(turn: &Turn) -> bool {
+    matches!(found(turn), Some(Finding::Clean | Finding::Warning))
+}
+
+fn cpu_write(turn: &Turn) -> bool {
+    turn.cycle.write() && !turn.cycle.dma
+}
+
+/// Distance 0, at the edge or beyond it, with DIRW or without.
+fn at_distance_0(turn: &Turn, stack: bool) -> bool {
+    turn.descriptor().has(DIRW) == stack && turn.answers[0].distance == 0
+}
+
+/// A CPU write without violation warns exactly with DIRW set and distance 0, and
+/// nothing else warns. Where the VTR is zero a warning shows: PWW alone.
+fn warns_at_distance_0(pair: &Pair, turn: &Turn) -> bool {
+    let warns = cpu_write(turn) && without_violation(turn) && at_distance_0(turn, true);
+    let shows = pair.units[0].vtr == PWW;
+    warned(turn) == warns && (turn.before.vtr != 0 || shows == warns)
+}
+
+const WARNED: &[Wanted] = &[
+    ("warned, VTR zero", |_, turn| {
+        warned(turn) && turn.before.vtr == 0
+    }),
+    ("warned, VTR standing", |_, turn| {
+        warned(turn) && turn.before.vtr != 0
+    }),
+    ("warned under hold", |_, turn| {
+        warned(turn) && turn.before.hold
+    }),
+    ("a stack's write with room", |_, turn| {
+        let room = turn.descriptor().has(DIRW) && turn.answers[0].distance != 0;
+        cpu_write(turn) && without_violation(turn) && room
+    }),
+    ("a write at the edge, upward", |_, turn| {
+        cpu_write(turn) && without_violation(turn) && at_distance_0(turn, false)
+    }),
+    ("a stack's write at its limit, a violation", |_, turn| {
+        let limit = turn.cycle.offset == turn.descriptor().limit;
+        let violates = matches!(found(turn), Some(Finding::Violation(_)));
+        cpu_write(turn) && violates && limit && at_distance_0(turn, true)
+    }),
+    ("a stack's write beyond its limit", |_, turn| {
+        let beyond = Document01::outside(turn.descriptor(), &turn.cycle);
+        cpu_write(turn) && found(turn).is_some() && beyond && at_distance_0(turn, true)
+    }),
+    ("a stack's read at its limit", |_, turn| {
+        let read = turn.cycle.read && !turn.cycle.dma;
+        read && without_violation(turn) && at_distance_0(turn, true)
+    }),
+    ("a stack's DMA write at its limit", |_, turn| {
+        let write = turn.cycle.write() && turn.cycle.dma;
+        write && without_violation(turn) && at_distance_0(turn, true)
+    }),
+];
+
+#[test]
+fn in_any_run_a_write_warns_exactly_at_a_stacks_distance_0() {
+    every_turn(|_, _| true, warns_at_distance_0, WARNED);
 }
 
 /// Refusals 1 and 2 are what no capture meets.

@@ -13,3 +13,4 @@ mod sample;
 mod script;
 mod scripted;
 mod segments;
+mod tighter;

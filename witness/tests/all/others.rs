@@ -11,12 +11,13 @@ use witness::Document01;
 
 use crate::pairs::{busy, every_turn, is, obeys, translates, Pair, Turn, Wanted, CYCLES, PAIRS};
 
-fn aborted(unit: &Unit, cycle: &Cycle) -> bool {
+/// An aborted fetch, of a cycle that is not refused.
+pub fn aborted(unit: &Unit, cycle: &Cycle) -> bool {
     unit.awaits && cycle.status == 0xD && cycle.read && !cycle.dma
 }
 
 /// A selected command %08 to %0F, either way.
-fn takes_descriptor(cycle: &Cycle) -> bool {
+pub fn takes_descriptor(cycle: &Cycle) -> bool {
     let obeyed = !cycle.reset && !cycle.dma && cycle.select && cycle.segment <= 127;
     obeyed && cycle.status == 0x3 && matches!(cycle.offset, BASE..=WHOLE_STEPPING)
 }
@@ -33,9 +34,10 @@ const USUAL: &[Wanted] = &[
     ("translated in a pair that differs", |pair, turn| {
         is(turn, Kind::Translated) && pair.units[0] != pair.units[1]
     }),
-    ("translated with room left", |_, turn| {
-        turn.answers[0].distance != 0
-    }),
+    (
+        "distance other than 0 in a pair that differs",
+        |pair, turn| turn.answers[0].distance != 0 && pair.units[0] != pair.units[1],
+    ),
     ("marked", |pair, turn| {
         is(turn, Kind::Translated) && pair.units[0].table != turn.before.table
     }),

@@ -1,6 +1,7 @@
 //! Pairs of units that differ in nothing but descriptors outside a set, stepped
 //! by the same cycles, any at all that a rule allows: what the tests of tickets
-//! 2, 5 and 12 run on. That of ticket 8 has pairs and cycles of its own.
+//! 2, 5 and 12 run on. That of ticket 8 has pairs and cycles of its own, and that
+//! of demand 3's line pairs.
 
 use witness::commands::code::{CLEAR_VTR, MR, VTR};
 use witness::cycle::{Answer, Cycle, Kind};
@@ -8,7 +9,7 @@ use witness::generate::low::low;
 use witness::generate::random::Random;
 use witness::generate::steps::undamaged;
 use witness::step::Step;
-use witness::unit::{attribute, mode, Unit};
+use witness::unit::{attribute, mode, Descriptor, Unit};
 use witness::Document01;
 
 pub const PAIRS: usize = 10_000;
@@ -34,6 +35,13 @@ pub struct Turn {
     pub before: Unit,
     pub cycle: Cycle,
     pub answers: [Answer; 2],
+}
+
+impl Turn {
+    /// The first unit's descriptor of the cycle's segment, as it stood.
+    pub fn descriptor(&self) -> &Descriptor {
+        &self.before.table[usize::from(self.cycle.segment % 64)]
+    }
 }
 
 impl Pair {

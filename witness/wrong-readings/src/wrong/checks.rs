@@ -17,25 +17,32 @@ fn violates(descriptor: &Descriptor, cycle: &Cycle) -> bool {
 
 /// The right distance where a wrong reading has one, else 0.
 fn distance_if(carried: bool, descriptor: &Descriptor, cycle: &Cycle) -> u8 {
-    if carried { Document01::distance(descriptor, cycle) } else { 0 }
+    match carried {
+        true => Document01::distance(descriptor, cycle),
+        false => 0,
+    }
 }
 
-/// Another distance without a length violation, else 0.
+/// Another distance, but 0 in a length violation.
 fn inside(distance: u8, descriptor: &Descriptor, cycle: &Cycle) -> u8 {
-    if Document01::outside(descriptor, cycle) { 0 } else { distance }
+    match Document01::outside(descriptor, cycle) {
+        true => 0,
+        false => distance,
+    }
 }
 
-/// The right distance, but another one with DIRW.
-fn with_dirw(distance: u8, descriptor: &Descriptor, cycle: &Cycle) -> u8 {
-    match descriptor.has(attribute::DIRW) {
+/// The same in one direction, and the right distance in the other.
+fn inside_if(dirw: bool, distance: u8, descriptor: &Descriptor, cycle: &Cycle) -> u8 {
+    match descriptor.has(attribute::DIRW) == dirw {
         true => inside(distance, descriptor, cycle),
         false => Document01::distance(descriptor, cycle),
     }
 }
 
-/// The right distance, but another one in a length violation.
-fn with_violation(distance: u8, descriptor: &Descriptor, cycle: &Cycle) -> u8 {
-    match Document01::outside(descriptor, cycle) {
+/// Another distance in a length violation of one direction.
+fn beyond_if(dirw: bool, distance: u8, descriptor: &Descriptor, cycle: &Cycle) -> u8 {
+    let beyond = Document01::outside(descriptor, cycle);
+    match beyond && descriptor.has(attribute::DIRW) == dirw {
         true => distance,
         false => Document01::distance(descriptor, cycle),
     }
@@ -256,14 +263,28 @@ wrong! { Checks:
             distance_if(!violates(descriptor, cycle), descriptor, cycle)
         }
     }
-    DistanceNotForDma "for DMA the distance is 0" {
-        fn distance(descriptor: &Descriptor, cycle: &Cycle) -> u8 {
-            distance_if(!cycle.dma, descriptor, cycle)
-        }
-    }
     DistanceNotInDmaViolation "in a DMA violation the distance is 0" {
         fn distance(descriptor: &Descriptor, cycle: &Cycle) -> u8 {
             distance_if(!cycle.dma || !violates(descriptor, cycle), descriptor, cycle)
+        }
+    }
+    DistanceNotInhibited "CPUI for the CPU and DMAI for DMA permit no block: the distance is 0" {
+        fn distance(descriptor: &Descriptor, cycle: &Cycle) -> u8 {
+            let inhibited = Document01::cpu_inhibited(descriptor, cycle)
+                || Document01::dma_inhibited(descriptor, cycle);
+            distance_if(!inhibited, descriptor, cycle)
+        }
+    }
+    DistanceNotOfWarning "in a warning the distance is 0"
+    same "a warning is at the limit, where it is 0" {
+        fn distance(descriptor: &Descriptor, cycle: &Cycle) -> u8 {
+            let warning = Document01::check(descriptor, cycle) == Finding::Warning;
+            distance_if(!warning, descriptor, cycle)
+        }
+    }
+    DistanceNotForDma "for DMA the distance is 0" {
+        fn distance(descriptor: &Descriptor, cycle: &Cycle) -> u8 {
+            distance_if(!cycle.dma, descriptor, cycle)
         }
     }
     DistanceOfStacks "only a segment with DIRW has a distance" {
@@ -276,26 +297,43 @@ wrong! { Checks:
             distance_if(matches!(cycle.status, 0x9 | 0xB), descriptor, cycle)
         }
     }
+    DistanceNotOfProgram "status %C and %D have no distance" {
+        fn distance(descriptor: &Descriptor, cycle: &Cycle) -> u8 {
+            distance_if(!matches!(cycle.status, 0xC | 0xD), descriptor, cycle)
+        }
+    }
     DistanceOfWrites "only writes have a distance" {
         fn distance(descriptor: &Descriptor, cycle: &Cycle) -> u8 {
             distance_if(cycle.write(), descriptor, cycle)
         }
     }
-    DistanceWithAccessed "the accessed block counts: the distance is one more" {
+    DistanceOfReads "only reads have a distance" {
+        fn distance(descriptor: &Descriptor, cycle: &Cycle) -> u8 {
+            distance_if(cycle.read, descriptor, cycle)
+        }
+    }
+    DistanceWithAccessed "the accessed block counts, upward: limit + 1 less offset byte" {
         fn distance(descriptor: &Descriptor, cycle: &Cycle) -> u8 {
             let more = Document01::distance(descriptor, cycle).saturating_add(1);
-            inside(more, descriptor, cycle)
+            inside_if(false, more, descriptor, cycle)
         }
     }
-    DistanceWithoutLast "the last permitted block does not count: the distance is one less" {
+    DistanceWithAccessedStack "the accessed block counts, downward: offset byte + 1 less limit" {
         fn distance(descriptor: &Descriptor, cycle: &Cycle) -> u8 {
-            Document01::distance(descriptor, cycle).saturating_sub(1)
+            let more = Document01::distance(descriptor, cycle).saturating_add(1);
+            inside_if(true, more, descriptor, cycle)
         }
     }
-    DistanceToWarning "with DIRW the block at the limit, where a write warns, does not count" {
+    DistanceWithoutLast "the last permitted block does not count, upward" {
         fn distance(descriptor: &Descriptor, cycle: &Cycle) -> u8 {
             let less = Document01::distance(descriptor, cycle).saturating_sub(1);
-            with_dirw(less, descriptor, cycle)
+            inside_if(false, less, descriptor, cycle)
+        }
+    }
+    DistanceWithoutLastStack "the last permitted block, where a write warns, does not count, downward" {
+        fn distance(descriptor: &Descriptor, cycle: &Cycle) -> u8 {
+            let less = Document01::distance(descriptor, cycle).saturating_sub(1);
+            inside_if(true, less, descriptor, cycle)
         }
     }
     DistanceUpward "the distance does not look at DIRW" {
@@ -314,39 +352,60 @@ wrong! { Checks:
             cycle.offset.abs_diff(descriptor.limit)
         }
     }
-    DistanceWraps "in a length violation the distance is the difference modulo 256" {
+    DistanceWraps "in a length violation upward the distance is the difference modulo 256" {
         fn distance(descriptor: &Descriptor, cycle: &Cycle) -> u8 {
-            let back = cycle.offset.abs_diff(descriptor.limit);
-            with_violation(back.wrapping_neg(), descriptor, cycle)
+            let difference = descriptor.limit.wrapping_sub(cycle.offset);
+            beyond_if(false, difference, descriptor, cycle)
+        }
+    }
+    DistanceWrapsStack "in a length violation downward the distance is the difference modulo 256" {
+        fn distance(descriptor: &Descriptor, cycle: &Cycle) -> u8 {
+            let difference = cycle.offset.wrapping_sub(descriptor.limit);
+            beyond_if(true, difference, descriptor, cycle)
         }
     }
     DistanceAllOnes "in a length violation the distance is 255" {
         fn distance(descriptor: &Descriptor, cycle: &Cycle) -> u8 {
-            with_violation(0xFF, descriptor, cycle)
-        }
-    }
-    DistanceToTop "with DIRW the distance is measured to the top: 255 less offset byte" {
-        fn distance(descriptor: &Descriptor, cycle: &Cycle) -> u8 {
-            with_dirw(0xFF - cycle.offset, descriptor, cycle)
-        }
-    }
-    DistanceFromFirst "the distance is measured from the segment's first block" {
-        fn distance(descriptor: &Descriptor, cycle: &Cycle) -> u8 {
-            match descriptor.has(attribute::DIRW) {
-                true => inside(0xFF - cycle.offset, descriptor, cycle),
-                false => inside(cycle.offset, descriptor, cycle),
+            match Document01::outside(descriptor, cycle) {
+                true => 0xFF,
+                false => Document01::distance(descriptor, cycle),
             }
         }
     }
-    DistanceOfLimitBlocks "with DIRW the distance is that of limit + 1 blocks from the top" {
+    DistanceFromZero "upward the distance is measured from block 0: it is the offset byte" {
         fn distance(descriptor: &Descriptor, cycle: &Cycle) -> u8 {
-            let lowest = 0xFF - descriptor.limit;
-            with_dirw(cycle.offset.saturating_sub(lowest), descriptor, cycle)
+            inside_if(false, cycle.offset, descriptor, cycle)
         }
     }
-    DistanceIsLimit "with DIRW the distance is the limit" {
+    DistanceFromTop "downward the distance is measured from the top: 255 less offset byte" {
         fn distance(descriptor: &Descriptor, cycle: &Cycle) -> u8 {
-            with_dirw(descriptor.limit, descriptor, cycle)
+            inside_if(true, 0xFF - cycle.offset, descriptor, cycle)
+        }
+    }
+    DistanceToTop "upward the distance is measured to block 255, whatever the limit" {
+        fn distance(descriptor: &Descriptor, cycle: &Cycle) -> u8 {
+            inside_if(false, 0xFF - cycle.offset, descriptor, cycle)
+        }
+    }
+    DistanceToZero "downward the distance is measured to block 0, whatever the limit" {
+        fn distance(descriptor: &Descriptor, cycle: &Cycle) -> u8 {
+            inside_if(true, cycle.offset, descriptor, cycle)
+        }
+    }
+    DistanceOfLimitBlocks "downward the distance is that of limit + 1 blocks from the top" {
+        fn distance(descriptor: &Descriptor, cycle: &Cycle) -> u8 {
+            let lowest = 0xFF - descriptor.limit;
+            inside_if(true, cycle.offset.saturating_sub(lowest), descriptor, cycle)
+        }
+    }
+    DistanceIsLimit "downward the distance is the limit" {
+        fn distance(descriptor: &Descriptor, cycle: &Cycle) -> u8 {
+            inside_if(true, descriptor.limit, descriptor, cycle)
+        }
+    }
+    DistanceSevenBits "the distance has seven bits: above 127 it is 127" {
+        fn distance(descriptor: &Descriptor, cycle: &Cycle) -> u8 {
+            Document01::distance(descriptor, cycle).min(0x7F)
         }
     }
     DistanceOfLow "a low byte other than 0 leaves one whole block less" {

@@ -516,6 +516,12 @@ wrong! { Memory:
             Answer { distance: if held { 0 } else { answer.distance }, ..answer }
         }
     }
+    DistanceNotSuppressed "a suppressed cycle carries 0" {
+        fn translated(unit: &mut Unit, cycle: &Cycle, address: u16, held: bool) -> Answer {
+            let answer = Document01::translated(unit, cycle, address, held);
+            Answer { distance: if answer.sup { 0 } else { answer.distance }, ..answer }
+        }
+    }
     DistanceNotOfFetch "no fetch carries a distance, aborted or not" {
         fn translated(unit: &mut Unit, cycle: &Cycle, address: u16, held: bool) -> Answer {
             let fetch = Document01::fetches(unit, cycle);
@@ -536,9 +542,22 @@ wrong! { Memory:
             Answer { distance, ..Document01::translated(unit, cycle, address, held) }
         }
     }
+    DistanceAfterMarks "the distance is measured after the cycle's REF and CHG are set"
+    same "it looks at limit and DIRW, which no memory cycle changes" {
+        fn translated(unit: &mut Unit, cycle: &Cycle, address: u16, held: bool) -> Answer {
+            let answer = Document01::translated(unit, cycle, address, held);
+            Answer { distance: distance(unit, cycle), ..answer }
+        }
+    }
     DistanceOfAborted "a translated aborted fetch carries the distance" {
         fn aborted_fetch(unit: &mut Unit, cycle: &Cycle) -> Answer {
             let distance = if translates(unit, cycle) { distance(unit, cycle) } else { 0 };
+            Answer { distance, ..Document01::aborted_fetch(unit, cycle) }
+        }
+    }
+    DistanceOfAbortedUntranslated "an aborted fetch that is not translated carries a distance" {
+        fn aborted_fetch(unit: &mut Unit, cycle: &Cycle) -> Answer {
+            let distance = if translates(unit, cycle) { 0 } else { distance(unit, cycle) };
             Answer { distance, ..Document01::aborted_fetch(unit, cycle) }
         }
     }

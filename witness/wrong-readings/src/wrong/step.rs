@@ -1,5 +1,5 @@
 //! Wrong readings of the refusals, of which cycle is what, of reset and of
-//! acknowledge.
+//! acknowledge, and of which cycles carry a distance.
 
 use super::{carried, distance, wrong};
 use witness::commands::{code, Commands};
@@ -783,6 +783,14 @@ wrong! { Step:
     DistanceOfReset "a reset cycle carries a distance" {
         fn step(unit: &mut Unit, cycle: &Cycle) -> Answer {
             carried_by(unit, cycle, |kind| kind == Kind::Reset)
+        }
+    }
+    DistanceOfIgnored "an ignored cycle that is no memory cycle carries a distance" {
+        fn step(unit: &mut Unit, cycle: &Cycle) -> Answer {
+            match Document01::class(cycle) {
+                Class::Ignored => carried_by(unit, cycle, |kind| kind == Kind::Ignored),
+                _ => Document01::step(unit, cycle),
+            }
         }
     }
     DistanceOfRange "a cycle with a number out of range carries a distance" {

@@ -216,11 +216,11 @@ wrong! { Text:
             distances(trace, |_, distance| (256 * u32::from(distance)).to_string())
         }
     }
-    DistanceDash "a cycle that is not translated has - for its distance" {
+    DistanceZeroDashes "a distance of 0 is printed as --" {
         fn run(trace: &[u8]) -> Vec<u8> {
-            distances(trace, |fields, distance| match translated(fields) {
-                true => distance.to_string(),
-                false => "-".to_string(),
+            distances(trace, |_, distance| match distance {
+                0 => "--".to_string(),
+                _ => distance.to_string(),
             })
         }
     }
@@ -248,6 +248,14 @@ wrong! { Text:
             lines(trace, |_, line| match translated(line) {
                 true => format!("{line}\n"),
                 false => without_distance(line),
+            })
+        }
+    }
+    DistanceNotOfRefused "a refused cycle has no seventh field" {
+        fn run(trace: &[u8]) -> Vec<u8> {
+            lines(trace, |_, line| match line.contains('X') {
+                true => without_distance(line),
+                false => format!("{line}\n"),
             })
         }
     }
