@@ -74,8 +74,8 @@ static size_t put_line(char *text, unsigned n, const uint8_t *answer)
         snprintf(lines, sizeof lines, "%02X%02X", answer[DISTANTARM_LINES_HIGH], answer[DISTANTARM_LINES_LOW]);
     if (flags & DISTANTARM_DRIVES)
         snprintf(byte, sizeof byte, "%02X", answer[DISTANTARM_BYTE]);
-    return (size_t)sprintf(text, "%u %c%s %s %d %d %s\n", n, answer[DISTANTARM_KIND], number, lines, (flags & DISTANTARM_SUP) != 0,
-                           (flags & DISTANTARM_TRAP) != 0, byte);
+    return (size_t)sprintf(text, "%u %c%s %s %d %d %s %d\n", n, answer[DISTANTARM_KIND], number, lines, (flags & DISTANTARM_SUP) != 0,
+                           (flags & DISTANTARM_TRAP) != 0, byte, answer[DISTANTARM_DISTANCE]);
 }
 
 /* The text of the trace from one call after another; its length. */

@@ -1,6 +1,6 @@
 /* distantarm_vpi: the proved unit as system tasks of a Verilog simulator (VPI), for benches that compare logic of their own with it.
  *   $distantarm_power_on;            one unit, kept here, at power-on
- *   $distantarm_cycle(record)        a cycle, from the 32 bits of a trace record, with 0 for its low byte; its packed answer, 48 bits, the
+ *   $distantarm_cycle(record)        a cycle, from the 32 bits of a trace record, with 0 for its low byte; its packed answer, 56 bits, the
  *                                    kind's letter on top
  *   $distantarm_unit(index)          a byte of the unit, laid out as distantarm.h says; 0 past its end */
 #include <vpi_user.h>

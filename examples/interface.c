@@ -1,26 +1,28 @@
 /* interface: what distantarm.h says, tried through C. Where the registers, notes, descriptors and the low byte stand and each kind of
- * answer; every low byte; then all that is refused: buffers that are too short, damaged units, orphans in the VTR, strange notes, cycles
- * out of range, commands that are not there. A refusal must give its number and leave what it says it leaves. Status 0 if all is so, else
- * 1. */
+ * answer; every low byte; the distance at every block under every limit; then all that is refused: buffers that are too short, damaged
+ * units, orphans in the VTR, strange notes, cycles out of range, commands that are not there. A refusal must give its number and leave what
+ * it says it leaves. Status 0 if all is so, else 1. */
 #include <stdio.h>
 #include <string.h>
 
 #include "distantarm.h"
 
-enum { UNIT = DISTANTARM_UNIT_BYTES, ANSWER = DISTANTARM_ANSWER_BYTES, PAST = 8 };
+enum { UNIT = DISTANTARM_UNIT_BYTES, ANSWER = DISTANTARM_ANSWER_BYTES, PAST = 8, SHOWN = 20 };
 
 static int tried, failed;
 
+/* Failures are all counted, and the first ones shown: a mistake in the distance is met at thousands of blocks. */
 static void expect(bool holds, const char *what)
 {
     tried++;
     if (holds)
         return;
     failed++;
-    fprintf(stderr, "interface: %s: not as distantarm.h says\n", what);
+    if (failed <= SHOWN)
+        fprintf(stderr, "interface: %s: not as distantarm.h says\n", what);
 }
 
-/* A selected cycle of the CPU. */
+/* A selected cycle, without its master. */
 struct cycle {
     uint8_t status, segment, offset, low, byte;
     bool read, normal, reset;
@@ -29,10 +31,16 @@ struct cycle {
 /* a read of the VTR; a cycle out of range */
 static const struct cycle plain = {3, 0, 0x02, 0x5A, 0, true, false, false}, outside = {16, 128, 0x12, 0x5A, 0, true, false, false};
 
+static uint8_t call_as(bool dma, uint8_t *unit, size_t unit_length, uint8_t *answer, size_t answer_length, struct cycle c)
+{
+    return distantarm_cycle(unit, unit_length, answer, answer_length, c.status, c.read, c.normal, dma, true, c.segment, c.offset, c.low,
+                            c.byte, c.reset);
+}
+
+/* The same of the CPU. */
 static uint8_t call(uint8_t *unit, size_t unit_length, uint8_t *answer, size_t answer_length, struct cycle c)
 {
-    return distantarm_cycle(unit, unit_length, answer, answer_length, c.status, c.read, c.normal, false, true, c.segment, c.offset, c.low,
-                            c.byte, c.reset);
+    return call_as(false, unit, unit_length, answer, answer_length, c);
 }
 
 /* Cycles one after another from power-on: the kind of each, and a byte of the unit after it. Descriptor 7 begins at byte 38. Each cycle has
@@ -107,7 +115,7 @@ static void fill(uint8_t *bytes, size_t length)
 static void refuses(uint8_t number, const uint8_t *unit, struct cycle c, const char *what)
 {
     const bool request = (unit[DISTANTARM_NOTES] & DISTANTARM_REQUEST) != 0;
-    const uint8_t said[ANSWER] = {DISTANTARM_REFUSED, number, 0, 0, request ? DISTANTARM_TRAP : 0, 0};
+    const uint8_t said[ANSWER] = {DISTANTARM_REFUSED, number, 0, 0, request ? DISTANTARM_TRAP : 0, 0, 0};
     uint8_t after[UNIT + PAST], answer[ANSWER + PAST], before[ANSWER + PAST];
 
     memcpy(after, unit, UNIT + PAST);
@@ -161,6 +169,139 @@ static void low_bytes(void)
                 memcpy(said, answer, ANSWER);
             }
             expect(memcmp(unit, bare, UNIT) == 0 && memcmp(answer, said, ANSWER) == 0, "nothing else reads the low byte");
+        }
+}
+
+/* Flags of the attributes and of MR. */
+enum { RD = 0x01, SYS = 0x02, CPUI = 0x04, EXC = 0x08, DMAI = 0x10, DIRW = 0x20 };
+enum { MST = 0x10, URS = 0x20, TRNS = 0x40, MSEN = 0x80, ON = MSEN + TRNS };
+
+/* Where the distance is tried: a segment with a base so high that the sum passes the top. The status of a data cycle and of a fetch. What
+ * an answer's bytes are before the call, so that one that is not written shows. */
+enum { SEGMENT = 5, BASE = 0xFFA0, DATA = 8, FETCH = 13, BLANK = 0x69 };
+
+/* Cycles in that segment: the kind and the number of the answer, the unit's MR and notes, and the attributes without DIRW. Where the cycle
+ * is translated, `sup` is what turns SUP on within the limit. */
+static const struct way {
+    const char *what;
+    int kind;
+    uint8_t number, mr, notes, attributes, status;
+    bool read, normal, dma, reset;
+    enum { NOTHING, HOLD, RIGHTS } sup;
+} ways[] = {
+    {.what = "a read", .kind = DISTANTARM_TRANSLATED, .mr = ON, .status = DATA, .read = true},
+    {.what = "a write", .kind = DISTANTARM_TRANSLATED, .mr = ON, .status = DATA},
+    {.what = "a fetch", .kind = DISTANTARM_TRANSLATED, .mr = ON, .notes = DISTANTARM_HOLD, .status = FETCH, .read = true},
+    {.what = "a fetch, EXC", .kind = DISTANTARM_TRANSLATED, .mr = ON, .attributes = EXC, .status = FETCH, .read = true},
+    {.what = "a write at %D", .kind = DISTANTARM_TRANSLATED, .mr = ON, .notes = DISTANTARM_AWAIT, .status = FETCH},
+    {.what = "a read, hold", .kind = DISTANTARM_TRANSLATED, .mr = ON, .notes = DISTANTARM_HOLD, .status = DATA, .read = true, .sup = HOLD},
+    {.what = "a write, hold", .kind = DISTANTARM_TRANSLATED, .mr = ON, .notes = DISTANTARM_HOLD, .status = DATA, .sup = HOLD},
+    {.what = "a write, RD", .kind = DISTANTARM_TRANSLATED, .mr = ON, .attributes = RD, .status = DATA, .sup = RIGHTS},
+    {.what = "a read, SYS", .kind = DISTANTARM_TRANSLATED, .mr = ON, .attributes = SYS, .status = DATA, .read = true, .normal = true,
+     .sup = RIGHTS},
+    {.what = "a read, EXC", .kind = DISTANTARM_TRANSLATED, .mr = ON, .attributes = EXC, .status = DATA, .read = true, .sup = RIGHTS},
+    {.what = "a read, CPUI", .kind = DISTANTARM_TRANSLATED, .mr = ON, .attributes = CPUI, .status = DATA, .read = true, .sup = RIGHTS},
+    {.what = "DMA read", .kind = DISTANTARM_TRANSLATED, .mr = ON, .attributes = CPUI, .status = DATA, .read = true, .dma = true},
+    {.what = "DMA write, hold", .kind = DISTANTARM_TRANSLATED, .mr = ON, .notes = DISTANTARM_HOLD, .status = DATA, .dma = true},
+    {.what = "DMA read at %D", .kind = DISTANTARM_TRANSLATED, .mr = ON, .notes = DISTANTARM_REQUEST + DISTANTARM_AWAIT, .status = FETCH,
+     .read = true, .dma = true},
+    {.what = "DMA write, RD", .kind = DISTANTARM_TRANSLATED, .mr = ON, .attributes = RD, .status = DATA, .dma = true, .sup = RIGHTS},
+    {.what = "DMA read, DMAI", .kind = DISTANTARM_TRANSLATED, .mr = ON, .attributes = DMAI, .status = DATA, .read = true, .dma = true,
+     .sup = RIGHTS},
+    {.what = "aborted, translated", .kind = DISTANTARM_ABORTED, .mr = ON, .notes = DISTANTARM_AWAIT, .status = FETCH, .read = true},
+    {.what = "aborted, passed", .kind = DISTANTARM_ABORTED, .mr = MSEN, .notes = DISTANTARM_AWAIT, .status = FETCH, .read = true},
+    {.what = "passed", .kind = DISTANTARM_PASSED, .mr = MSEN, .status = DATA, .read = true},
+    {.what = "DMA, passed", .kind = DISTANTARM_PASSED, .mr = MSEN, .status = DATA, .read = true, .dma = true},
+    {.what = "MSEN clear", .kind = DISTANTARM_IGNORED, .mr = TRNS, .status = DATA, .read = true},
+    {.what = "another half", .kind = DISTANTARM_IGNORED, .mr = ON + URS, .status = DATA, .read = true},
+    {.what = "another mode", .kind = DISTANTARM_IGNORED, .mr = ON + MST, .status = DATA, .read = true, .normal = true},
+    {.what = "no memory cycle", .kind = DISTANTARM_IGNORED, .mr = ON, .read = true},
+    {.what = "acknowledge", .kind = DISTANTARM_ACKNOWLEDGE, .mr = ON, .notes = DISTANTARM_REQUEST, .status = 4, .read = true},
+    {.what = "reset", .kind = DISTANTARM_RESET, .mr = ON, .status = DATA, .read = true, .reset = true},
+    {.what = "strange notes", .kind = DISTANTARM_REFUSED, .number = DISTANTARM_DAMAGED, .mr = ON, .notes = 16, .status = DATA,
+     .read = true},
+    {.what = "no such status", .kind = DISTANTARM_REFUSED, .number = DISTANTARM_OUT_OF_RANGE, .mr = ON, .status = DATA + 16, .read = true},
+};
+
+/* Whether the answer is as the header says at a block that is `left` blocks before the last permitted one, or past it where that is less
+ * than 0. The answer of a translated cycle is held to it in every byte. */
+static bool carries(const struct way *w, const uint8_t *answer, int block, int left, bool downwards)
+{
+    const bool violates = left < 0 || w->sup == RIGHTS;
+    const bool warns = !violates && downwards && left == 0 && !w->read;
+    const bool sup = violates || w->sup == HOLD;
+    const bool trap = (w->notes & DISTANTARM_REQUEST) != 0 || (!w->dma && (violates || warns));
+    const uint16_t lines = (uint16_t)(BASE + block);
+    const uint8_t said[ANSWER] = {
+        [DISTANTARM_KIND] = DISTANTARM_TRANSLATED,
+        [DISTANTARM_NUMBER] = 0,
+        [DISTANTARM_LINES_HIGH] = (uint8_t)(lines / 256),
+        [DISTANTARM_LINES_LOW] = (uint8_t)(lines % 256),
+        [DISTANTARM_FLAGS] = (uint8_t)(DISTANTARM_ADDRESS + (sup ? DISTANTARM_SUP : 0) + (trap ? DISTANTARM_TRAP : 0)),
+        [DISTANTARM_BYTE] = 0,
+        [DISTANTARM_DISTANCE] = (uint8_t)(left < 0 ? 0 : left),
+    };
+
+    if (w->kind == DISTANTARM_TRANSLATED)
+        return memcmp(answer, said, ANSWER) == 0;
+    return answer[DISTANTARM_KIND] == w->kind && answer[DISTANTARM_DISTANCE] == 0;
+}
+
+/* Every block under one limit, in one direction. */
+static void try_blocks(const struct way *w, int limit, bool downwards)
+{
+    const uint8_t descriptor[] = {BASE / 256, BASE % 256, (uint8_t)limit, (uint8_t)(w->attributes + (downwards ? DIRW : 0))};
+    struct cycle c = {w->status, SEGMENT, 0, 0x5A, 0, w->read, w->normal, w->reset};
+    uint8_t unit[UNIT], answer[ANSWER + PAST], blank[PAST];
+    char what[64];
+    int block;
+
+    snprintf(what, sizeof what, "%s, limit %02X, DIRW %d", w->what, (unsigned)limit, downwards);
+    memset(blank, BLANK, sizeof blank);
+    for (block = 0; block < 256; block++) {
+        distantarm_power_on(unit, UNIT);
+        unit[DISTANTARM_MR] = w->mr;
+        unit[DISTANTARM_NOTES] = w->notes;
+        memcpy(unit + DISTANTARM_TABLE + DISTANTARM_DESCRIPTOR_BYTES * SEGMENT, descriptor, sizeof descriptor);
+        memset(answer, BLANK, sizeof answer);
+        c.offset = (uint8_t)block;
+        expect(call_as(w->dma, unit, UNIT, answer, sizeof answer, c) == w->number, what);
+        expect(carries(w, answer, block, downwards ? block - limit : limit - block, downwards), what);
+        expect(memcmp(answer + ANSWER, blank, PAST) == 0, what);
+    }
+}
+
+/* The distance: every way at every block under every limit in both directions. */
+static void distances(void)
+{
+    size_t i;
+    int limit;
+
+    for (i = 0; i < sizeof ways / sizeof ways[0]; i++)
+        for (limit = 0; limit < 256; limit++) {
+            try_blocks(&ways[i], limit, false);
+            try_blocks(&ways[i], limit, true);
+        }
+}
+
+/* Every command code, listed or not, read and written, in a segment with blocks to spare: no answer has a distance. */
+static void commands(void)
+{
+    struct cycle c = {3, 0, 0, 0x5A, 0, true, false, false};
+    uint8_t unit[UNIT], answer[ANSWER], number;
+    int code, read;
+
+    for (code = 0; code < 256; code++)
+        for (read = 0; read < 2; read++) {
+            distantarm_power_on(unit, UNIT);
+            unit[DISTANTARM_MR] = ON;
+            memset(unit + DISTANTARM_TABLE, 0xFF, 3); /* base and limit */
+            memset(answer, BLANK, ANSWER);
+            c.offset = (uint8_t)code;
+            c.read = read != 0;
+            number = call(unit, UNIT, answer, ANSWER, c);
+            expect(answer[DISTANTARM_KIND] == (number == 0 ? DISTANTARM_COMMAND : DISTANTARM_REFUSED), "a command, or none");
+            expect(answer[DISTANTARM_NUMBER] == number && answer[DISTANTARM_DISTANCE] == 0, "a command's number, and no distance");
         }
 }
 
@@ -243,7 +384,7 @@ static void refused_cycles(void)
     }
 }
 
-/* A text buffer one byte too short, and a trace of no bytes. */
+/* A text buffer one byte too short, or with the room of interface 2, and a trace of no bytes. */
 static void listing(void)
 {
     static uint8_t text[DISTANTARM_TEXT_BYTES], was[DISTANTARM_TEXT_BYTES];
@@ -251,6 +392,7 @@ static void listing(void)
     fill(was, sizeof was);
     memcpy(text, was, sizeof text);
     expect(distantarm_list(was, 0, text, sizeof text - 1) == 0, "a listing in a short buffer");
+    expect(distantarm_list(was, 0, text, 400012) == 0, "a listing in the room of interface 2");
     expect(memcmp(text, was, sizeof text) == 0, "a short text buffer is left");
     expect(distantarm_list(was, 0, text, sizeof text) == 3, "the listing of no trace");
     expect(memcmp(text, "X5\n", 3) == 0 && memcmp(text + 3, was + 3, sizeof text - 3) == 0, "the text of no trace, and the rest");
@@ -260,6 +402,8 @@ int main(void)
 {
     layout();
     low_bytes();
+    distances();
+    commands();
     power_on();
     short_buffers();
     damaged_units();

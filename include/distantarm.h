@@ -7,10 +7,16 @@
  * of one call do not overlap. That is all that a caller has to see to: every value of every other parameter, every length and every
  * content of a buffer has an answer, and bytes past those named here are left as they were.
  *
- * This is interface 2. Interface 1, whose header had no number, knew no low byte. A caller of it must hand distantarm_cycle one number
- * more, `low` behind `offset`, 0 where there is none: whatever it is, the answers are as before. It must give a unit one byte more,
- * DISTANTARM_LOW behind those that it had, 0 in a unit that was stored; no other place has moved. And it must be compiled again: its call
- * is short of a number, and all that tells is that a buffer of 266 bytes, which it may have, gets 255.
+ * This is interface 3. Interface 2 knew no distance. A caller of it must give an answer one byte more, DISTANTARM_DISTANCE behind those
+ * that it had, and the text of distantarm_list 96,000 bytes more; where it reads that text, each record's line has a seventh field. No
+ * other place has moved, and the declarations are the same, so one that takes the sizes from this header has only to be compiled again. A
+ * program that was not is told if its buffers have the sizes of interface 2: 6 bytes get 255, and 400,012 get 0. In a longer answer the
+ * seventh byte is now written.
+ *
+ * Interface 1, whose header had no number, knew no low byte either. A caller of it must hand distantarm_cycle one number more, `low` behind
+ * `offset`, 0 where there is none: whatever it is, the answers are the same. It must give a unit one byte more, DISTANTARM_LOW behind those
+ * that it had, 0 in a unit that was stored; no other place has moved. And it must be compiled again: its call is short of a number, and all
+ * that tells is that a unit of 266 bytes, or an answer of 6, which it may have, gets 255.
  *
  * What is proved is the library's source (crates/distantarm). Nothing checks these declarations against it but the test bench
  * (sh tools/interface). A bool is C's: a conversion to it makes 0 or 1, and no other byte may be passed.
@@ -27,12 +33,12 @@ extern "C" {
 #endif
 
 /* ---- the interface's version: it goes up where a caller must change something */
-#define DISTANTARM_INTERFACE 2
+#define DISTANTARM_INTERFACE 3
 
 /* ---- sizes in bytes: a unit, a packed answer, and the room that any text of distantarm_list has */
 #define DISTANTARM_UNIT_BYTES 267
-#define DISTANTARM_ANSWER_BYTES 6
-#define DISTANTARM_TEXT_BYTES 400012
+#define DISTANTARM_ANSWER_BYTES 7
+#define DISTANTARM_TEXT_BYTES 496012
 
 /* ---- a unit: where its registers stand, the bits of its notes, and where its 64 descriptors begin */
 #define DISTANTARM_MR 0
@@ -59,13 +65,19 @@ extern "C" {
 #define DISTANTARM_LOW 266
 
 /* ---- a packed answer: the letter of its kind, the number of a refusal or 0, address lines A23 to A16 and A15 to A8, the flags, the
- * data byte. Lines and a data byte that are not driven are 0. */
+ * data byte, the distance. Lines and a data byte that are not driven are 0. */
 #define DISTANTARM_KIND 0
 #define DISTANTARM_NUMBER 1
 #define DISTANTARM_LINES_HIGH 2
 #define DISTANTARM_LINES_LOW 3
 #define DISTANTARM_FLAGS 4
 #define DISTANTARM_BYTE 5
+
+/* The distance: how many whole blocks remain between the accessed block and the last permitted one in the segment's direction. It is the
+ * limit less the offset byte, or the offset byte less the limit with DIRW, and 0 in a length violation. Every answer of kind T has it, for
+ * the CPU and for DMA, in other violations and under SUP too; all other answers have 0. It stands last, so that no other place moved when
+ * it came. */
+#define DISTANTARM_DISTANCE 6
 
 /* flags: the address lines are driven, SUP is on, the trap line is on after the cycle, the data byte is driven */
 #define DISTANTARM_ADDRESS 1
@@ -98,7 +110,7 @@ extern "C" {
  * Where `unit` is shorter it gives 255 and leaves it as it was. */
 uint8_t distantarm_power_on(uint8_t *unit, size_t unit_length);
 
-/* One bus cycle. The packed answer stands in the first 6 bytes of `answer` and the unit after the cycle in the first 267 of `unit`.
+/* One bus cycle. The packed answer stands in the first 7 bytes of `answer` and the unit after the cycle in the first 267 of `unit`.
  *
  *   status    0 to 15            read, normal, dma   read and not write, normal and not system mode, DMA and not CPU
  *   segment   0 to 127           select              chip select
@@ -114,7 +126,7 @@ uint8_t distantarm_cycle(uint8_t *unit, size_t unit_length, uint8_t *answer, siz
                          bool dma, bool select, uint8_t segment, uint8_t offset, uint8_t low, uint8_t byte, bool reset);
 
 /* Puts the text of a trace, as mmurun prints it, at the start of `text`, and gives its length in bytes; no text is empty, and none ends
- * with a zero byte. Where `text` is shorter than 400,012 bytes it gives 0 and leaves it as it was. It needs about 100,000 bytes of stack. */
+ * with a zero byte. Where `text` is shorter than 496,012 bytes it gives 0 and leaves it as it was. It needs about 115,000 bytes of stack. */
 size_t distantarm_list(const uint8_t *trace, size_t trace_length, uint8_t *text, size_t text_length);
 
 #ifdef __cplusplus
