@@ -2,7 +2,6 @@
 -- below 0, since the block is within the length. Assumes nothing.
 use mathlib.Core.Path.{_≡_, sym, _∙_, subst}
 use mathlib.Core.Bool.{Bool, true, false}
-use Prim.Native.Nat.{_≤_}
 use borrow.Author.Needs.{needs}
 use borrow.Author.Tests.{ltb-false}
 use Rattle.rules.specs.Checks.{beyond, outOfLength, distanceOf}
