@@ -2,7 +2,7 @@
 -- Assumes nothing.
 use mathlib.Core.Path.{_≡_, refl, sym, _∙_, ap, subst}
 use mathlib.Core.Bool.{Bool, true, false, cond, not, _&&_, _||_, false≢true}
-use mathlib.Core.List.{[], _∷_}
+use mathlib.Core.List.{List, [], _∷_}
 use Prim.Native.Nat.{ℕ, zero, suc, _+_, _-_, _≤_, _<_}
 use native.Mathlib.Omega.{arith}
 use lib.Dec.{eqb, leb, ltb}
@@ -12,21 +12,23 @@ use borrow.Author.Tests.{eqb-true, eqb-false, eq-eqb, ne-eqb}
 use Rattle.rules.specs.Bus.{cpu, write}
 use Rattle.rules.specs.Flags.{has}
 use Rattle.rules.specs.Masks.{RD, SYS, CPUI, EXC, DMAI, DIRW}
-use Rattle.rules.specs.PowerOn.{storedOf, notesOf, blank}
-use Rattle.rules.specs.Seen.{segment, standing, cycle}
+use Rattle.rules.specs.PowerOn.{blank}
+use Rattle.rules.specs.Seen.{segment, acknowledge, cycle}
 use Rattle.rules.specs.Step.{stepped}
 use Rattle.rules.specs.declared.Cycle.{Cycle}
 use Rattle.rules.specs.declared.Descriptor.{Descriptor}
 use Rattle.rules.specs.declared.Unit.{Unit}
 use Rattle.theorems_runs.specs.Answers.{beyondLimit, breaks, translated, segmentOf, blocksLeft}
-use Rattle.theorems_runs.specs.Distance.{Counts, DistanceCounts, CountsOnce, WarnsAtTheEdge, BothTranslateNeeded, Roomier, DirectionNeeded}
+use Rattle.theorems_runs.specs.Distance.{Counts, DistanceCounts, CountsOnce, WarnsAtTheEdge, BothTranslateNeeded}
+use Rattle.theorems_runs.specs.Distance.{Roomier, RoomierWidened, DirectionNeeded}
 use Rattle.theorems_runs.specs.Narrower.{AlongBoth}
+use Rattle.theorems_runs.specs.Sequences.{_⇒_}
 use Rattle.theorems_runs.specs.Tighter.{before}
 use Rattle.theorems_runs.proofs.Answers.{distance-exactly}
 use Rattle.theorems_runs.proofs.Computed.{computed}
-use Rattle.theorems_runs.proofs.Examples.{unit, unit-undamaged}
+use Rattle.theorems_runs.proofs.Examples.{unit, unit-undamaged, unit-loosened, readOnly, writable, closed, writable-wider}
 use Rattle.theorems_runs.proofs.Tests.{or-l, or-r}
-use Rattle.theorems_runs.proofs.Wider.{wider-refl}
+use Rattle.theorems_runs.proofs.Wider.{wider-refl, beyond-limit-⇒}
 
 -- The blocks that are counted
 
@@ -128,26 +130,33 @@ warns-at-the-edge u c = go (translated u c) (breaks d c) (cpu c && write c) (has
 
 -- What demand 3's line needs
 
--- await in the second unit alone: there a fetch of segment 0 at offset 0, with the limit 1, is the aborted one
-fetching : (awaits : Bool) → Unit
-fetching awaits = standing (storedOf 0 0 0 0 0) (notesOf false awaits false false) (segment 0 1 0)
+-- Segment 1 is read-only in the first unit alone, segment 2 is closed to the CPU in both. A write to segment 1 is a fault of the first unit; the
+-- next fault, of both, is its second, and sets FATL there. At the third it is silent, and the second unit alone awaits the fetch after it, of
+-- segment 0 at offset 0 with the limit 1: one block from the edge in the first unit, aborted in the second.
+faultsThenFetch : List Cycle
+faultsThenFetch =
+    cycle false false false 8 1 0 ∷ acknowledge ∷ cycle false true false 8 2 0 ∷ acknowledge ∷ cycle false true false 8 2 0
+    ∷ cycle false true false 13 0 0 ∷ []
 
 pub both-translate-needed : BothTranslateNeeded
-unfolding fetching before AlongBoth computed
+unfolding faultsThenFetch before computed
 both-translate-needed claim =
     absurd
     (omega (
       arith,
-      claim (fetching false) (fetching true) (cycle false true false 13 0 0 ∷ [])
-          (record {
-            first = record { size = refl; sound = refl };
-            second = record { size = refl; sound = refl };
-            table = λ i s. wider-refl _;
-            mr = refl;
-            hold = λ z. z;
-          })
-          (refl, refl) .0,
+      claim (unit short readOnly closed) (unit short writable closed) faultsThenFetch (unit-undamaged _ _ _) (unit-undamaged _ _ _)
+          (unit-loosened (wider-refl _) writable-wider) (refl, (refl, (refl, (refl, (refl, (refl, refl)))))) .1 .1 .1 .1 .1 .0,
     ))
+  where
+    short : Descriptor
+    short = segment 0 1 0
+
+pub roomier-widened : RoomierWidened
+roomier-widened x y w = record { base = w .base; rights = w .rights; blocks = λ o s e. never (beyondLimit y o) (beyondLimit x o) (beyond-limit-⇒ o w) e }
+  where
+    never : (t s : Bool) → t ⇒ s → s ≡ false → t ≡ false
+    never true s h e = absurd (false≢true (sym e ∙ h refl))
+    never false s h e = refl
 
 -- segment 0 ends at block 1 in the first unit and is a stack of all 256 blocks in the second: block 0 is a block from the one's edge, and it is the
 -- other's

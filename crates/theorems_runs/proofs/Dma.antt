@@ -189,11 +189,14 @@ pub dma-answers : DmaAnswers
 dma-answers a b c h =
     let two : damaged (a .registers) ≡ damaged (b .registers) = h .0 ∙ sym (h .1) in
     record {
-      kind = same-kind a b c two (h .2) (h .3) (h .4);
-      address = same-address a b c two (h .2) (h .3) (h .4);
-      sup = same-sup a b c two (h .2) (h .3) (h .4);
-      drives = idle a c (h .2) .drives ∙ sym (idle b c (h .2) .drives);
-      byte = idle a c (h .2) .byte ∙ sym (idle b c (h .2) .byte);
+      signals =
+          record {
+            kind = same-kind a b c two (h .2) (h .3) (h .4);
+            address = same-address a b c two (h .2) (h .3) (h .4);
+            sup = same-sup a b c two (h .2) (h .3) (h .4);
+            drives = idle a c (h .2) .drives ∙ sym (idle b c (h .2) .drives);
+            byte = idle a c (h .2) .byte ∙ sym (idle b c (h .2) .byte);
+          };
       distance = same-distance a b c two (h .2) (h .3) (h .4);
     }
 

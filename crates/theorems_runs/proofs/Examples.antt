@@ -12,7 +12,7 @@ use Rattle.rules.specs.Refusals.{damaged}
 use Rattle.rules.specs.Seen.{segment}
 use Rattle.rules.specs.declared.Descriptor.{Descriptor}
 use Rattle.rules.specs.declared.Unit.{Unit}
-use Rattle.theorems_runs.specs.Tighter.{Wider}
+use Rattle.theorems_runs.specs.Tighter.{Wider, Loosened}
 use Rattle.theorems_runs.specs.Undamaged.{Undamaged}
 use Rattle.theorems_runs.proofs.Wider.{wider-refl}
 
@@ -40,6 +40,10 @@ wider-entries p q s zero h = p
 wider-entries p q s (suc zero) h = q
 wider-entries p q s (suc (suc zero)) h = s
 wider-entries p q s (suc (suc (suc i))) h = wider-refl _
+
+-- and the units differ in nothing else
+pub unit-loosened : {x y x' y' z : Descriptor} → Wider x x' → Wider y y' → Loosened (unit x y z) (unit x' y' z)
+unit-loosened w v = record { registers = refl; table = wider-entries w v (wider-refl _) }
 
 -- segment 1 read-only and writable, segment 2 closed to the CPU
 abbrev pub readOnly : Descriptor

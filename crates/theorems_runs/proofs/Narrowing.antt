@@ -21,7 +21,7 @@ use Rattle.theorems_runs.specs.Unstopped.{tableWrite, TableWrite, Narrow
 use Rattle.theorems_runs.proofs.Hold.{hold-exactly}
 use Rattle.theorems_runs.proofs.Tests.{and-l, and-r, differs}
 use Rattle.theorems_runs.proofs.Undamaged.{stays-undamaged}
-use Rattle.theorems_runs.proofs.Unstopped.{mr-exactly, covers-unstopped, covers-with-writes, nearer-unstopped}
+use Rattle.theorems_runs.proofs.Unstopped.{mr-exactly, level, covers-unstopped, covers-with-writes, nearer-unstopped}
 
 -- v has the MR and the hold of u
 record Alike (u v : Unit) : Type 0 where
@@ -109,6 +109,6 @@ narrowing-opens-nothing = (
 
 pub narrowing-nears : NarrowingNears
 narrowing-nears = (
-  λ u ws h w t. nearer-unstopped .0 (final u ws) u (narrowed-in-place u ws h w t),
-  λ u ws h w t. nearer-unstopped .1 (final u ws) u (narrowed-and-put-back u ws h w t),
+  λ u ws h w t. nearer-unstopped .0 (final u ws) u (level (narrowed-in-place u ws h w t)),
+  λ u ws h w t. nearer-unstopped .1 (final u ws) u (level (narrowed-in-place u ws h w (t .0))) (t .1) (t .2),
 )

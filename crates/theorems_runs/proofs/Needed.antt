@@ -16,14 +16,11 @@ use Rattle.rules.specs.declared.Cycle.{Cycle}
 use Rattle.rules.specs.declared.Descriptor.{Descriptor}
 use Rattle.rules.specs.declared.Unit.{Unit}
 use Rattle.theorems_runs.specs.Sequences.{Both}
-use Rattle.theorems_runs.specs.Tighter.{Wider, Loosened, Covers, before, NoDescriptorWrite, TighterBy, StopNeeded}
+use Rattle.theorems_runs.specs.Tighter.{Wider, Covers, before, NoDescriptorWrite, TighterBy, StopNeeded}
 use Rattle.theorems_runs.specs.Tighter.{inEither, Any, WritesExcluded}
 use Rattle.theorems_runs.proofs.Computed.{computed}
-use Rattle.theorems_runs.proofs.Examples.{unit, unit-undamaged, wider-entries, readOnly, writable, closed, writable-wider}
+use Rattle.theorems_runs.proofs.Examples.{unit, unit-undamaged, unit-loosened, readOnly, writable, closed, writable-wider}
 use Rattle.theorems_runs.proofs.Wider.{wider-refl}
-
-unit-loosened : {x y x' y' z : Descriptor} → Wider x x' → Wider y y' → Loosened (unit x y z) (unit x' y' z)
-unit-loosened w v = record { registers = refl; table = wider-entries w v (wider-refl _) }
 
 -- The stop. Segment 1 is read-only in the first unit alone, segment 2 is closed to the CPU in both. A write to segment 1 is a violation in
 -- the first unit, whose next fetch is therefore an aborted one, SUP off; the second unit suppresses that fetch.

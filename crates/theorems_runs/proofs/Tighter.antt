@@ -9,13 +9,13 @@ use Rattle.rules.specs.declared.Cycle.{Cycle}
 use Rattle.rules.specs.declared.Control.{Control}
 use Rattle.rules.specs.declared.Unit.{Unit}
 use Rattle.theorems_runs.specs.Answers.{abortedFetch}
-use Rattle.theorems_runs.specs.Narrower.{WritesNone, Narrower, AlongBoth, NarrowerKept, InStepKept, NarrowerCovers, WritesCover}
+use Rattle.theorems_runs.specs.Narrower.{WritesNone, Level, Narrower, AlongBoth, NarrowerKept, InStepKept, NarrowerCovers, WritesCover}
 use Rattle.theorems_runs.specs.Sequences.{Every, Both}
 use Rattle.theorems_runs.specs.Tighter.{Loosened, Covers, Nearer, EachLine, inFirst, before, NoDescriptorWrite, TighterBy, Demand3, StopInFirst}
 use Rattle.theorems_runs.specs.Undamaged.{Undamaged}
 use Rattle.theorems_runs.specs.Unstopped.{ofAborted, CoversBut}
 use Rattle.theorems_runs.proofs.Tests.{or-l}
-use Rattle.theorems_runs.proofs.Unstopped.{Level, level, step-level, hold-step, covers-unstopped}
+use Rattle.theorems_runs.proofs.Unstopped.{level, step-level, hold-step, covers-unstopped}
 use Rattle.theorems_runs.proofs.Unstopped.{Abreast, abreast, step-abreast, covers-with-writes, nearer-unstopped}
 
 none : (cs : List Cycle) (a b : Unit) → Every NoDescriptorWrite cs → AlongBoth WritesNone a b cs
@@ -67,7 +67,7 @@ module _ (stop : Unit → Unit → Cycle → Bool) (stops : (a b : Unit) (c : Cy
   tighter : EachLine λ Line. TighterBy Line NoDescriptorWrite stop
   tighter = (
     λ a b cs sa sb l f. cut cs a b (covers-unstopped a b cs (narrower sa sb l) (none cs a b f)),
-    λ a b cs sa sb l f. nearer-cut stop cs a b (nearer-unstopped .0 a b (narrower sa sb l) cs (none cs a b f)),
+    λ a b cs sa sb l f. nearer-cut stop cs a b (nearer-unstopped .0 a b (level (narrower sa sb l)) cs (none cs a b f)),
   )
 
 pub demand-3 : Demand3
@@ -102,11 +102,11 @@ in-step-kept a b c h f x =
 pub narrower-covers : NarrowerCovers
 narrower-covers = (
   λ a b cs h f. cut inFirst (λ a b c e. e) cs a b (covers-unstopped a b cs h f),
-  λ a b cs h f. nearer-cut inFirst cs a b (nearer-unstopped .0 a b h cs f),
+  λ a b cs h f. nearer-cut inFirst cs a b (nearer-unstopped .0 a b (level h) cs f),
 )
 
 pub writes-cover : WritesCover
 writes-cover = (
   λ a b cs h f. cut inFirst (λ a b c e. e) cs a b (covers-with-writes a b cs h f),
-  λ a b cs h f. nearer-cut inFirst cs a b (nearer-unstopped .1 a b h cs f),
+  λ a b cs h f. nearer-cut inFirst cs a b (nearer-unstopped .1 a b (level (h .narrower)) (h .sar) (h .dscr) cs f),
 )

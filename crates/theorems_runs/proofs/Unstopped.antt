@@ -1,4 +1,4 @@
--- Demand 3 with no stop, from the exact equations of the address, SUP, hold, MR and the descriptors.
+-- Demand 3 with no stop, from the exact equations of the address, SUP, the distance, hold, MR and the descriptors.
 -- Assumes nothing.
 use mathlib.Core.Path.{_≡_, refl, sym, _∙_, ap, subst}
 use mathlib.Core.Bool.{Bool, true, false, cond, not, _&&_, _||_, Bool·beq, true≢false, false≢true}
@@ -30,7 +30,8 @@ use Rattle.theorems_runs.specs.Cycles.{selectedCommand, acknowledge, mem
 use Rattle.theorems_runs.specs.Cycles.{translationConditions, descriptorWrite, writes}
 use Rattle.theorems_runs.specs.Descriptors.{descriptor, writesTo, writesHere, byteAt}
 use Rattle.theorems_runs.specs.Hold.{endsHold, holds, cpuViolation}
-use Rattle.theorems_runs.specs.Narrower.{WiderTable, HoldsFirst, Narrower, NarrowerInStep, TurnsNone, WritesNone, AlongBoth}
+use Rattle.theorems_runs.specs.Narrower.{WiderTable, HoldsFirst, Level, Narrower, NarrowerInStep, TurnsNone, WritesNone, AlongBoth}
+use Rattle.theorems_runs.specs.Narrower.{SameSar, SameDscr}
 use Rattle.theorems_runs.specs.Refusal.{admitted}
 use Rattle.theorems_runs.specs.Sequences.{_⇒_, Both}
 use Rattle.theorems_runs.specs.Tighter.{Wider, Nearer}
@@ -96,12 +97,6 @@ mr-exactly u c =
     ∙ (rw (bracketed (c .reset) (eqb (c .status) 3) (cpu c && c .select)))
 
 -- Two units: undamaged, the second's descriptors wider, MR equal
-
-pub record Level (a b : Unit) : Type 0 where
-  pub first : Undamaged a
-  pub second : Undamaged b
-  pub table : WiderTable a b
-  pub mr : SameMr a b
 
 pub level : {a b : Unit} → Narrower a b → Level a b
 level h = record { first = h .first; second = h .second; table = h .table; mr = h .mr }
@@ -306,14 +301,18 @@ pub record Abreast (a b : Unit) : Type 0 where
   pub levels : Level a b
   pub control : a .registers .control ≡ b .registers .control
 
-pub abreast : {a b : Unit} → NarrowerInStep a b → Abreast a b
-abreast h = record { levels = level (h .narrower); control = same (h .narrower .mr) (h .sar) (h .dscr) }
+-- where these are all that is equal
+side-by-side : {a b : Unit} → Level a b → SameSar a b → SameDscr a b → Abreast a b
+side-by-side h sar dscr = record { levels = h; control = same (h .mr) sar dscr }
   where
     control-of : (m n d : ℕ) → Control
     control-of m n d = record { mr = m; sar = n; dscr = d }
 
     same : {m m' n n' d d' : ℕ} → m ≡ m' → n ≡ n' → d ≡ d' → control-of m n d ≡ control-of m' n' d'
     same p q s = rw (p, q, s)
+
+pub abreast : {a b : Unit} → NarrowerInStep a b → Abreast a b
+abreast h = side-by-side (level (h .narrower)) (h .sar) (h .dscr)
 
 module _ (a b : Unit) (c : Cycle) (h : Abreast a b) (turns : TurnsNone a b c) where
   same-control : stepped a c .unit .registers .control ≡ stepped b c .unit .registers .control
@@ -380,8 +379,8 @@ module _ (Related : Unit → Unit → Type 0) (May : Unit → Unit → Cycle →
 
 pub nearer-unstopped : NearerUnstopped
 nearer-unstopped = (
-  λ a b n cs f. nearer Level WritesNone (λ a b l. l) step-level cs a b (level n) f,
-  λ a b n cs f. nearer Abreast TurnsNone (λ a b h. h .levels) step-abreast cs a b (abreast n) f,
+  λ a b h cs f. nearer Level WritesNone (λ a b l. l) step-level cs a b h f,
+  λ a b h sar dscr cs f. nearer Abreast TurnsNone (λ a b h. h .levels) step-abreast cs a b (side-by-side h sar dscr) f,
 )
 
 pub covers-with-writes : CoversWithWrites

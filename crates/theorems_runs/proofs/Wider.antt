@@ -15,7 +15,7 @@ use Rattle.rules.specs.Memory.{touched}
 use Rattle.rules.specs.Step.{withFlags}
 use Rattle.rules.specs.declared.Cycle.{Cycle}
 use Rattle.rules.specs.declared.Descriptor.{Descriptor}
-use Rattle.theorems_runs.specs.Answers.{breaks, blocksLeft}
+use Rattle.theorems_runs.specs.Answers.{beyondLimit, breaks, blocksLeft}
 use Rattle.theorems_runs.specs.Descriptors.{SameRules}
 use Rattle.theorems_runs.specs.Sequences.{_⇒_}
 use Rattle.theorems_runs.specs.Tighter.{Wider}
@@ -37,17 +37,21 @@ beyond-⇒ true true l m o q up down = ltb-⇒ o m o l λ h. omega (arith, down 
 beyond-⇒ false true l m o q up down = absurd (false≢true q)
 beyond-⇒ true false l m o q up down = absurd (true≢false q)
 
+-- a block beyond the wider's limit is beyond the tighter's
+pub beyond-limit-⇒ : {x y : Descriptor} (o : ℕ) → Wider x y → beyondLimit y o ⇒ beyondLimit x o
+beyond-limit-⇒ {x} {y} o w =
+    beyond-⇒ (has (x .attributes) DIRW) (has (y .attributes) DIRW) (x .limit) (y .limit) o (w .direction) (w .up) (w .down)
+
 -- a rule of the wider that is broken is one of the tighter
 pub breaks-⇒ : {x y : Descriptor} (c : Cycle) → Wider x y → breaks y c ⇒ breaks x c
 breaks-⇒ {x} {y} c w =
     let a : ℕ = x .attributes in
     let b : ℕ = y .attributes in
-    six-⇒ (has b RD && write c) (has b SYS && c .normal) (has b EXC && not (program c))
-    (cond (has b DIRW) (ltb (c .offset) (y .limit)) (ltb (y .limit) (c .offset))) (has b CPUI && cpu c) (has b DMAI && c .dma)
-    (has a RD && write c) (has a SYS && c .normal) (has a EXC && not (program c))
-    (cond (has a DIRW) (ltb (c .offset) (x .limit)) (ltb (x .limit) (c .offset))) (has a CPUI && cpu c) (has a DMAI && c .dma)
+    six-⇒ (has b RD && write c) (has b SYS && c .normal) (has b EXC && not (program c)) (beyondLimit y (c .offset)) (has b CPUI && cpu c)
+    (has b DMAI && c .dma) (has a RD && write c) (has a SYS && c .normal) (has a EXC && not (program c)) (beyondLimit x (c .offset))
+    (has a CPUI && cpu c) (has a DMAI && c .dma)
     (and-⇒ _ _ (write c) (w .rights .0)) (and-⇒ _ _ (c .normal) (w .rights .1 .0)) (and-⇒ _ _ (not (program c)) (w .rights .1 .1 .1 .0))
-    (beyond-⇒ (has a DIRW) (has b DIRW) (x .limit) (y .limit) (c .offset) (w .direction) (w .up) (w .down))
+    (beyond-limit-⇒ (c .offset) w)
     (and-⇒ _ _ (cpu c) (w .rights .1 .1 .0)) (and-⇒ _ _ (c .dma) (w .rights .1 .1 .1 .1 .0))
 
 -- past the limit the difference is 0 as well

@@ -14,10 +14,10 @@ use Rattle.rules.specs.declared.Descriptor.{Descriptor}
 use Rattle.rules.specs.declared.Unit.{Unit}
 use Rattle.theorems_runs.specs.Answers.{segmentOf, beyondLimit, breaks, translated, SameMr}
 use Rattle.theorems_runs.specs.Descriptors.{descriptor}
-use Rattle.theorems_runs.specs.Narrower.{HoldsFirst, Narrower, WritesNone, FromBy}
+use Rattle.theorems_runs.specs.Narrower.{HoldsFirst, WritesNone, FromBy}
 use Rattle.theorems_runs.specs.SegmentNumbers.{warning}
 use Rattle.theorems_runs.specs.Sequences.{_⇒_, Every}
-use Rattle.theorems_runs.specs.Tighter.{Nearer}
+use Rattle.theorems_runs.specs.Tighter.{Wider, Nearer, inFirst, NoDescriptorWrite, TighterBy}
 use Rattle.theorems_runs.specs.Undamaged.{Undamaged}
 
 -- the k-th block after another in the segment's direction: with DIRW set a segment grows downwards
@@ -28,8 +28,8 @@ onward d o k = cond (has (d .attributes) DIRW) (o - k) (o + k)
 abbrev pub named : Descriptor → (block k : ℕ) → Bool
 named d o k = cond (has (d .attributes) DIRW) (leb k o) (ltb (o + k) 256)
 
--- what a distance n says of a block o: each of the n blocks after it in the segment's direction is there and passes the length check, and the
--- next one, if the offset byte can still name it, does not
+-- what a distance n says of a block o: it and each of the n blocks after it in the segment's direction can be named and pass the length check,
+-- and the next one, if the offset byte can still name it, does not
 pub record Counts (d : Descriptor) (o n : ℕ) : Type 0 where
   pub pass : (k : ℕ) → k ≤ n → (named d o k ≡ true) × (beyondLimit d (onward d o k) ≡ false)
   pub ends : named d o (n + 1) ≡ true → beyondLimit d (onward d o (n + 1)) ≡ true
@@ -55,15 +55,20 @@ WarnsAtTheEdge =
 
 -- What can't be left out of demand 3's line
 
--- CLAIM: that both translate the cycle: an aborted fetch of the second unit alone carries 0.
+-- CLAIM: that both translate the cycle, where the run goes on past an aborted fetch of the second unit alone, which carries 0: even from equal
+-- registers.
 abbrev pub BothTranslateNeeded : Type 0
-BothTranslateNeeded = FromBy (λ x y. x .distance ≤ y .distance) WritesNone Narrower → ⊥
+BothTranslateNeeded = TighterBy (λ x y. x .distance ≤ y .distance) NoDescriptorWrite inFirst → ⊥
 
--- `Wider`, but by the blocks that are allowed, whatever the directions
+-- `Wider` widened: by the blocks that are allowed, whatever the directions
 pub record Roomier (x y : Descriptor) : Type 0 where
   pub base : x .base ≡ y .base
   pub rights : Every (λ flag. has (y .attributes) flag ⇒ has (x .attributes) flag) (RD ∷ SYS ∷ CPUI ∷ EXC ∷ DMAI ∷ [])
   pub blocks : (o : ℕ) → o < 256 → beyondLimit x o ≡ false → beyondLimit y o ≡ false
+
+-- CLAIM: so it is.
+abbrev pub RoomierWidened : Type 0
+RoomierWidened = (x y : Descriptor) → Wider x y → Roomier x y
 
 -- CLAIM: that the directions are the same: with a table that allows more blocks in another direction the edge may be nearer.
 abbrev pub DirectionNeeded : Type 0

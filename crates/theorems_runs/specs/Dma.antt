@@ -49,13 +49,17 @@ DmaTrap = TrapStays (λ c. ByDma c × NoReset c)
 abbrev pub DmaTrapNeeds : Type 0
 DmaTrapNeeds = (TrapStays ByDma → ⊥) × (TrapStays NoReset → ⊥)
 
--- two answers are the same but for the trap line
-pub record SameButTrap (x y : Answer) : Type 0 where
+-- two answers are the same but for the trap line and the distance
+pub record SameSignals (x y : Answer) : Type 0 where
   pub kind : x .kind ≡ y .kind
   pub address : x .address ≡ y .address
   pub sup : x .sup ≡ y .sup
   pub drives : x .drives ≡ y .drives
   pub byte : x .byte ≡ y .byte
+
+-- and but for the trap line
+pub record SameButTrap (x y : Answer) : Type 0 where
+  pub signals : SameSignals x y
   pub distance : x .distance ≡ y .distance
 
 abbrev pub Sound : Unit → Type 0
@@ -64,19 +68,19 @@ Sound u = damaged (u .registers) ≡ false
 abbrev pub SameSegment : Unit → Unit → Cycle → Type 0
 SameSegment a b c = segmentOf a c ≡ segmentOf b c
 
--- two units that are alike for a cycle, as said, answer it alike
-abbrev pub AnswersAlike : (Alike : Unit → Unit → Cycle → Type 0) → Type 0
-AnswersAlike Alike = (a b : Unit) (c : Cycle) → Alike a b c → SameButTrap (stepped a c .answer) (stepped b c .answer)
+-- two units that are alike for a cycle, as said, answer it as said
+abbrev pub AnswersAlike : (Same : Answer → Answer → Type 0) → (Alike : Unit → Unit → Cycle → Type 0) → Type 0
+AnswersAlike Same Alike = (a b : Unit) (c : Cycle) → Alike a b c → Same (stepped a c .answer) (stepped b c .answer)
 
 -- CLAIM: what a DMA cycle that 2 does not refuse is answered depends on MR, its segment's descriptor and the cycle alone, but for the trap line.
 abbrev pub DmaAnswers : Type 0
-DmaAnswers = AnswersAlike (λ a b c. Sound a × Sound b × ByDma c × SameMr a b × SameSegment a b c)
+DmaAnswers = AnswersAlike SameButTrap (λ a b c. Sound a × Sound b × ByDma c × SameMr a b × SameSegment a b c)
 
--- CLAIM: none of these can be left out: that both units are undamaged, that it is DMA, that MR and the descriptor are the same.
+-- CLAIM: none of these can be left out, even with the distance left open: that both units are undamaged, that it is DMA, that MR and the descriptor are the same.
 abbrev pub DmaAnswersNeed : Type 0
 DmaAnswersNeed =
-    (AnswersAlike (λ a b c. Sound b × ByDma c × SameMr a b × SameSegment a b c) → ⊥)
-    × (AnswersAlike (λ a b c. Sound a × ByDma c × SameMr a b × SameSegment a b c) → ⊥)
-    × (AnswersAlike (λ a b c. Sound a × Sound b × SameMr a b × SameSegment a b c) → ⊥)
-    × (AnswersAlike (λ a b c. Sound a × Sound b × ByDma c × SameSegment a b c) → ⊥)
-    × (AnswersAlike (λ a b c. Sound a × Sound b × ByDma c × SameMr a b) → ⊥)
+    (AnswersAlike SameSignals (λ a b c. Sound b × ByDma c × SameMr a b × SameSegment a b c) → ⊥)
+    × (AnswersAlike SameSignals (λ a b c. Sound a × ByDma c × SameMr a b × SameSegment a b c) → ⊥)
+    × (AnswersAlike SameSignals (λ a b c. Sound a × Sound b × SameMr a b × SameSegment a b c) → ⊥)
+    × (AnswersAlike SameSignals (λ a b c. Sound a × Sound b × ByDma c × SameSegment a b c) → ⊥)
+    × (AnswersAlike SameSignals (λ a b c. Sound a × Sound b × ByDma c × SameMr a b) → ⊥)

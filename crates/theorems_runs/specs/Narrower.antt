@@ -28,7 +28,14 @@ WiderTable a b = (i : ℕ) → i < 64 → Wider (descriptor a i) (descriptor b i
 abbrev pub HoldsFirst : Unit → Unit → Type 0
 HoldsFirst a b = holds b ⇒ holds a
 
--- both undamaged, the tables tightened, MR equal, hold ordered; SAR, DSCR, VTR, request, await, own and all else as they like
+-- both undamaged, the tables tightened, MR equal
+pub record Level (a b : Unit) : Type 0 where
+  pub first : Undamaged a
+  pub second : Undamaged b
+  pub table : WiderTable a b
+  pub mr : SameMr a b
+
+-- the same, and hold ordered; SAR, DSCR, VTR, request, await, own and all else as they like
 pub record Narrower (a b : Unit) : Type 0 where
   pub first : Undamaged a
   pub second : Undamaged b

@@ -14,7 +14,7 @@ use Rattle.rules.specs.declared.Unit.{Unit}
 use Rattle.theorems_runs.specs.Answers.{abortedFetch}
 use Rattle.theorems_runs.specs.Cycles.{selectedCommand, softwareReset, onDescriptor}
 use Rattle.theorems_runs.specs.Hold.{endsHold}
-use Rattle.theorems_runs.specs.Narrower.{WiderTable, Narrower, SameSar, SameDscr, NarrowerInStep, TurnsNone, WritesNone, AlongBoth}
+use Rattle.theorems_runs.specs.Narrower.{WiderTable, Level, Narrower, SameSar, SameDscr, NarrowerInStep, TurnsNone, WritesNone, AlongBoth}
 use Rattle.theorems_runs.specs.Refusal.{admitted}
 use Rattle.theorems_runs.specs.Sequences.{_⇒_, Every, Both}
 use Rattle.theorems_runs.specs.Tighter.{Nearer}
@@ -65,11 +65,12 @@ CoversWithWrites = (a b : Unit) (cs : List Cycle) → NarrowerInStep a b → Alo
 abbrev pub NearerThroughout : (May : Unit → Unit → Cycle → Type 0) → Unit → Unit → Type 0
 NearerThroughout May a b = (cs : List Cycle) → AlongBoth May a b cs → Both Nearer (answers a cs) (answers b cs)
 
--- CLAIM: the line on the distance needs neither the stop nor an exception: with no writes of %08 to %0F; and with those that turn no descriptor
--- whose limits differ.
+-- CLAIM: the line on the distance needs neither the stop nor an exception, and no note: with no writes of %08 to %0F; and, SAR and DSCR equal,
+-- with those that turn no descriptor whose limits differ.
 abbrev pub NearerUnstopped : Type 0
 NearerUnstopped =
-    ((a b : Unit) → Narrower a b → NearerThroughout WritesNone a b) × ((a b : Unit) → NarrowerInStep a b → NearerThroughout TurnsNone a b)
+    ((a b : Unit) → Level a b → NearerThroughout WritesNone a b)
+    × ((a b : Unit) → Level a b → SameSar a b → SameDscr a b → NearerThroughout TurnsNone a b)
 
 -- In a running system
 
