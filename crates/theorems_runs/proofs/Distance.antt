@@ -1,11 +1,11 @@
 -- What the distance means, from its exact equation; and what demand 3's line needs, by runs that antt computes.
 -- Assumes nothing.
 use mathlib.Core.Path.{_≡_, refl, sym, _∙_, ap, subst}
-use mathlib.Core.Bool.{Bool, true, false, cond, not, _&&_, _||_, false≢true}
+use mathlib.Core.Bool.{Bool, true, false, cond, not, _&&_, _||_, true≢false, false≢true}
 use mathlib.Core.List.{List, [], _∷_}
 use Prim.Native.Nat.{ℕ, zero, suc, _+_, _-_, _≤_, _<_}
 use native.Mathlib.Omega.{arith}
-use lib.Dec.{eqb, leb, ltb}
+use lib.Dec.{eqb, leb, ltb, lit<, lit≤}
 use lib.ListN.{getD, replicate}
 use borrow.Author.Tests.{ltb-true, ltb-false, lt-ltb, le-ltb, leb-true, le-leb}
 use borrow.Author.Tests.{eqb-true, eqb-false, eq-eqb, ne-eqb}
@@ -13,7 +13,7 @@ use Rattle.rules.specs.Bus.{cpu, write}
 use Rattle.rules.specs.Flags.{has}
 use Rattle.rules.specs.Masks.{RD, SYS, CPUI, EXC, DMAI, DIRW}
 use Rattle.rules.specs.PowerOn.{blank}
-use Rattle.rules.specs.Seen.{segment, acknowledge, cycle}
+use Rattle.rules.specs.Seen.{segment, reads, writes, acknowledge, command, cycle}
 use Rattle.rules.specs.Step.{stepped}
 use Rattle.rules.specs.declared.Cycle.{Cycle}
 use Rattle.rules.specs.declared.Descriptor.{Descriptor}
@@ -22,11 +22,13 @@ use Rattle.theorems_runs.specs.Answers.{beyondLimit, breaks, translated,
 use Rattle.theorems_runs.specs.Distance.{Counts, DistanceCounts, CountsOnce, WarnsAtTheEdge, BothTranslateNeeded}
 use Rattle.theorems_runs.specs.Distance.{Roomier, RoomierWidened, DirectionNeeded}
 use Rattle.theorems_runs.specs.Narrower.{AlongBoth}
+use Rattle.theorems_runs.specs.SegmentNumbers.{warning}
 use Rattle.theorems_runs.specs.Sequences.{_⇒_}
-use Rattle.theorems_runs.specs.Tighter.{before}
+use Rattle.theorems_runs.specs.Tighter.{Wider, before}
 use Rattle.theorems_runs.proofs.Answers.{distance-exactly}
 use Rattle.theorems_runs.proofs.Computed.{computed}
-use Rattle.theorems_runs.proofs.Examples.{unit, unit-undamaged, unit-loosened, readOnly, writable, closed, writable-wider}
+use Rattle.theorems_runs.proofs.Examples.{unit, unit-undamaged, wider-entries, unit-loosened, readOnly, writable, closed, writable-wider}
+use Rattle.theorems_runs.proofs.Narrowing.{narrowing-nears}
 use Rattle.theorems_runs.proofs.Tests.{or-l, or-r}
 use Rattle.theorems_runs.proofs.Wider.{wider-refl, beyond-limit-⇒}
 
@@ -56,17 +58,22 @@ stops false l o e h =
     let inside : o ≤ l = ltb-false l o e in
     lt-ltb l (o + (l - o + 1)) (omega arith)
 
+-- the distance of a translated cycle within the limit
+left : (u : Unit) (c : Cycle) → translated u c ≡ true → beyondLimit (segmentOf u c) (c .offset) ≡ false
+    → stepped u c .answer .distance
+    ≡ cond (has (segmentOf u c .attributes) DIRW) (c .offset - segmentOf u c .limit) (segmentOf u c .limit - c .offset)
+left u c t e =
+    let d : Descriptor = segmentOf u c in
+    distance-exactly u c
+    ∙ ap (λ (t : Bool). cond t (blocksLeft d (c .offset)) 0) t
+    ∙ ap (λ (t : Bool). cond t 0 (cond (has (d .attributes) DIRW) (c .offset - d .limit) (d .limit - c .offset))) e
+
 pub distance-counts : DistanceCounts
 distance-counts u c t e small =
     let d : Descriptor = segmentOf u c in
-    let o : ℕ = c .offset in
     let down : Bool = has (d .attributes) DIRW in
-    let left : stepped u c .answer .distance ≡ cond down (o - d .limit) (d .limit - o) =
-    distance-exactly u c
-    ∙ ap (λ (t : Bool). cond t (blocksLeft d o) 0) t
-    ∙ ap (λ (t : Bool). cond t 0 (cond down (o - d .limit) (d .limit - o))) e in
-    subst (λ (n : ℕ). Counts d o n) (sym left)
-    (record { pass = λ k h. passes down (d .limit) o k small e h; ends = stops down (d .limit) o e })
+    subst (λ (n : ℕ). Counts d (c .offset) n) (sym (left u c t e))
+    (record { pass = λ k h. passes down (d .limit) (c .offset) k small e h; ends = stops down (d .limit) (c .offset) e })
 
 -- a larger number would have the block pass at which the smaller one ends
 pub counts-once : CountsOnce
@@ -113,13 +120,10 @@ warns-at-the-edge u c = go (translated u c) (breaks d c) (cpu c && write c) (has
         → eqb o (d .limit) ≡ eqb (stepped u c .answer .distance) 0
     same t b w =
         let inside : beyondLimit d o ≡ false = inside-limit d c b in
-        let left : stepped u c .answer .distance ≡ o - d .limit =
-        distance-exactly u c
-        ∙ ap (λ (t : Bool). cond t (blocksLeft d o) 0) t
-        ∙ ap (λ (t : Bool). cond t 0 (cond (has (d .attributes) DIRW) (o - d .limit) (d .limit - o))) inside
-        ∙ ap (λ (t : Bool). cond t (o - d .limit) (d .limit - o)) w in
+        let downward : stepped u c .answer .distance ≡ o - d .limit =
+        left u c t inside ∙ ap (λ (t : Bool). cond t (o - d .limit) (d .limit - o)) w in
         let under : ltb o (d .limit) ≡ false = subst (λ (t : Bool). cond t (ltb o (d .limit)) (ltb (d .limit) o) ≡ false) w inside in
-        edge (d .limit) o (ltb-false o (d .limit) under) ∙ ap (λ (n : ℕ). eqb n 0) (sym left)
+        edge (d .limit) o (ltb-false o (d .limit) under) ∙ ap (λ (n : ℕ). eqb n 0) (sym downward)
 
     go : (t b p w e f : Bool) → (t ≡ true → b ≡ false → w ≡ true → e ≡ f) → (t && not b && (p && w && e)) ≡ (t && not b && (p && w && f))
     go false b p w e f h = refl
@@ -127,6 +131,45 @@ warns-at-the-edge u c = go (translated u c) (breaks d c) (cpu c && write c) (has
     go true false false w e f h = refl
     go true false true false e f h = refl
     go true false true true e f h = h refl refl refl
+
+-- What the claims come to in a stack with the limit %F8: had they asked for more, or said less, these would not follow from them
+
+abbrev stack : (limit : ℕ) → Descriptor
+stack limit = segment 0x2000 limit DIRW
+
+abbrev stacked : Unit
+stacked = unit (stack 0xF8) blank blank
+
+-- block %FB: three blocks are left, and the fourth does not pass
+pub counts-known : Counts (stack 0xF8) 0xFB 3
+unfolding computed
+counts-known = distance-counts stacked (reads 0xFB) refl refl (lit< tt)
+
+-- a write at the limit warns, one a block above it does not, nor a read at the limit
+pub warns-known : (warning stacked (writes 0xF8) ≡ true) × (warning stacked (writes 0xF9) ≡ false) × (warning stacked (reads 0xF8) ≡ false)
+unfolding computed
+warns-known = (warns-at-the-edge stacked (writes 0xF8), warns-at-the-edge stacked (writes 0xF9), warns-at-the-edge stacked (reads 0xF8))
+
+-- with the limit written to %F9 block %FB is no further from the edge than without
+abbrev raised : Unit
+raised = stepped stacked (command false 0x09 0xF9) .unit
+
+pub nears-known : stepped raised (reads 0xFB) .answer .distance ≤ stepped stacked (reads 0xFB) .answer .distance
+unfolding AlongBoth computed
+nears-known =
+    narrowing-nears .0 stacked (command false 0x09 0xF9 ∷ []) (unit-undamaged _ _ _) (refl, refl)
+    (wider-entries (lower 0xF9 0xF8 (lit≤ tt)) (wider-refl _) (wider-refl _)) (reads 0xFB ∷ []) (refl, refl) .0 refl refl
+  where
+    -- the lower limit has more blocks
+    lower : (m l : ℕ) → l ≤ m → Wider (stack m) (stack l)
+    lower m l h =
+        record {
+          base = refl;
+          direction = refl;
+          rights = (λ e. e, (λ e. e, (λ e. e, (λ e. e, (λ e. e, refl)))));
+          up = λ e. absurd (true≢false e);
+          down = λ e. h;
+        }
 
 -- What demand 3's line needs
 
