@@ -1,4 +1,5 @@
 -- Document 01, "The trace": the letter of each kind of answer, and the number of a refusal.
+use mathlib.Core.Option.{Option, none, some}
 use Prim.Native.Nat.{ℕ}
 use Rattle.rules.specs.declared.Kind.{Kind}
 use Rattle.rules.specs.declared.Kind.the-variants.{Reset, Acknowledge, Command, Aborted, Translated, Passed, Ignored}
@@ -25,3 +26,14 @@ numberOf Translated = 0
 numberOf Passed = 0
 numberOf Ignored = 0
 numberOf (Refused n) = n
+
+-- the number that a kind gives, if it is a refusal
+abbrev pub numberIn : Kind → Option ℕ
+numberIn Reset = none
+numberIn Acknowledge = none
+numberIn Command = none
+numberIn Aborted = none
+numberIn Translated = none
+numberIn Passed = none
+numberIn Ignored = none
+numberIn (Refused n) = some n

@@ -9,6 +9,7 @@ use lib.Dec.{eqb, leb, ltb}
 use lib.ListN.{getD}
 use borrow.Author.Tests.{eqb-true, not-true}
 use Rattle.rules.proofs.Blind.{isTranslated, own-segment}
+use Rattle.rules.specs.Kinds.{numberIn}
 use Rattle.rules.specs.Bus.{cpu, write, fetch, program}
 use Rattle.rules.specs.Checks.{rightsOf, beyond, outOfLength, remaining, distanceOf, violates}
 use Rattle.rules.specs.Flags.{has, lacks, with, flagIf}
@@ -41,7 +42,7 @@ use Rattle.theorems_runs.specs.Answers.{awaited, kindBy, KindExactly, is
 use Rattle.theorems_runs.specs.Answers.{breaks, translated, SupExactly, blocksLeft, DistanceExactly}
 use Rattle.theorems_runs.specs.Cycles.{selectedCommand, acknowledge, memoryCycle, fetches, passingConditions, translationConditions}
 use Rattle.theorems_runs.specs.Cycles.{readOnly, setOrClear, listed}
-use Rattle.theorems_runs.specs.Refusal.{numberIn, earliest, refusalOf, unlisted, wrongWay, admitted}
+use Rattle.theorems_runs.specs.Refusal.{earliest, refusalOf, unlisted, wrongWay, admitted}
 use Rattle.theorems_runs.proofs.Bits.{or-none}
 use Rattle.theorems_runs.proofs.Codes.{isShow, isAct, isListed, show-codes, act-codes, listed-codes}
 use Rattle.theorems_runs.proofs.Looks.{conditions-way}

@@ -5,6 +5,7 @@ use mathlib.Core.Bool.{Bool, true, false}
 use mathlib.Core.Option.{Option, none, some}
 use Prim.Native.Nat.{ℕ}
 use native.Mathlib.Omega.{arith}
+use Rattle.rules.specs.Kinds.{numberIn}
 use Rattle.rules.specs.Replies.{plain, refused}
 use Rattle.rules.specs.Step.{changed, decision, after}
 use Rattle.rules.specs.declared.Decision.{Decision}
@@ -12,7 +13,7 @@ use Rattle.rules.specs.declared.Kind.{Kind}
 use Rattle.rules.specs.declared.Kind.the-variants.{Refused}
 use Rattle.rules.specs.declared.Registers.{Registers}
 use Rattle.theorems_runs.specs.Answers.{kindBy}
-use Rattle.theorems_runs.specs.Refusal.{numberIn, NumbersExactly, RefusalLeaves}
+use Rattle.theorems_runs.specs.Refusal.{NumbersExactly, RefusalLeaves}
 use Rattle.theorems_runs.proofs.Answers.{Judged, refuses, accepts, kind-exactly, says, says-kind}
 
 number-of : (o : Option ℕ) (r a k m w t p : Bool) → numberIn (kindBy o r a k m w t p) ≡ o

@@ -5,27 +5,15 @@ use mathlib.Core.Bool.{Bool, true, false, not, _&&_, _||_}
 use mathlib.Core.Option.{Option, none, some}
 use Prim.Native.Nat.{ℕ}
 use Rattle.rules.specs.Bus.{write}
+use Rattle.rules.specs.Kinds.{numberIn}
 use Rattle.rules.specs.Refusals.{damaged, outOfRange}
 use Rattle.rules.specs.Replies.{off}
 use Rattle.rules.specs.Step.{stepped}
 use Rattle.rules.specs.declared.Cycle.{Cycle}
-use Rattle.rules.specs.declared.Kind.{Kind}
-use Rattle.rules.specs.declared.Kind.the-variants.{Reset, Acknowledge, Command, Aborted, Translated, Passed, Ignored}
 use Rattle.rules.specs.declared.Kind.the-variants.{Refused}
 use Rattle.rules.specs.declared.Stepped.{Stepped}
 use Rattle.rules.specs.declared.Unit.{Unit}
 use Rattle.theorems_runs.specs.Cycles.{selectedCommand, readOnly, setOrClear, listed}
-
--- the number that an answer's kind gives, if it is a refusal
-abbrev pub numberIn : Kind → Option ℕ
-numberIn Reset = none
-numberIn Acknowledge = none
-numberIn Command = none
-numberIn Aborted = none
-numberIn Translated = none
-numberIn Passed = none
-numberIn Ignored = none
-numberIn (Refused n) = some n
 
 -- "3: selected command with a code not listed"
 abbrev pub unlisted : Cycle → Bool

@@ -1,0 +1,2 @@
+-- Ticket 3 as definitions, to be read beside it.
+pub mod Board
