@@ -1,7 +1,7 @@
 -- One unit more, and what all units come to.
 -- Assumes nothing.
 use mathlib.Core.Path.{_≡_, refl, sym, _∙_, ap}
-use mathlib.Core.Bool.{Bool, true, false, not, cond, _&&_, _||_, or-false}
+use mathlib.Core.Bool.{Bool, true, false, not, cond, _&&_, _||_, or-false, or-assoc}
 use mathlib.Core.List.{List, [], _∷_, map}
 use mathlib.Core.Option.{Option, none, some}
 use Prim.Native.Nat.{ℕ, suc}
@@ -101,10 +101,6 @@ two-turn p one two x s ss e = rw e (go one two (p s) (some-of p ss) (two-of p ss
     go true false false any more = refl
     go false false true any more = refl
     go false false false any more = refl
-
-or-assoc : (a b x : Bool) → ((a || b) || x) ≡ (a || (b || x))
-or-assoc true b x = refl
-or-assoc false b x = refl
 
 -- one unit more is judged as the next of the seats
 pub judged-turn : (j : Judged) (i : ℕ) (c : Cycle) (s : Seat) (ss : List Seat)

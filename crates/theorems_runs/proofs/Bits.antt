@@ -86,7 +86,7 @@ module _ (op digit : ℕ → ℕ → ℕ) (step : (a b : ℕ) → op a b ≡ op 
         one (n % 2) (b % 2) (c % 2) (omega arith) (omega arith) (omega arith),
       )
 
-or-assoc : (a b c : ℕ) → bitOr (bitOr a b) c ≡ bitOr a (bitOr b c)
+pub or-assoc : (a b c : ℕ) → bitOr (bitOr a b) c ≡ bitOr a (bitOr b c)
 or-assoc = associative bitOr max or-step (λ x y h k. omega arith) (λ x y z h k l. omega arith) (λ b c. refl)
 
 and-assoc : (a b c : ℕ) → bitAnd (bitAnd a b) c ≡ bitAnd a (bitAnd b c)
