@@ -1,4 +1,7 @@
-// A board of 1 to 16 units, its cycle and its answer: the types that ticket 3's rules, in specs/, speak of.
+// A board of 1 to 16 units, its cycle and its answer: the types that ticket 3's rules, in specs/, speak of, and the
+// cycle as one unit sees it.
+ghost use mathlib.Core.Path.{_≡_};
+ghost use Rattle.board_rules.specs.Board.{seenBy};
 use rules::Answer;
 use rules::Cycle;
 use rules::Unit;
@@ -44,4 +47,22 @@ impl Board {
     pub const TWO_DRIVE: u8 = 12;
 
     pub const SEVERAL_READ: u8 = 13;
+}
+
+// The cycle as a unit sees it, with its own select.
+pub fn seen_by(c: Cycle, select: bool) -> Cycle
+    ensures { λ r. ⌜ r ≡ seenBy select c ⌝ }
+{
+    Cycle {
+        status: c.status,
+        read: c.read,
+        normal: c.normal,
+        dma: c.dma,
+        select,
+        segment: c.segment,
+        offset: c.offset,
+        low: c.low,
+        byte: c.byte,
+        reset: c.reset,
+    }
 }

@@ -1,0 +1,2 @@
+-- laws of loops over seats
+pub mod Ahead
