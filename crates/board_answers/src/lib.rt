@@ -120,7 +120,11 @@ pub fn pass_by(t: Joint, request: bool) -> Joint
 fn nobody_in(aborted: bool) -> Kind
     ensures { λ k. ⌜ k ≡ nobodyIn aborted ⌝ }
 {
-    if aborted { Kind::Aborted } else { Kind::Ignored }
+    if aborted {
+        Kind::Aborted
+    } else {
+        Kind::Ignored
+    }
 }
 
 // The kind of a board's answer; `k` is that of the unit that drives.
@@ -148,7 +152,11 @@ fn either(driven: bool, k: Kind, nobody: Kind) -> Kind
 fn named_in(driven: bool, driver: u8) -> Named
     ensures { λ n. ⌜ n ≡ namedIn driven driver ⌝ }
 {
-    if driven { Named::Number(driver) } else { Named::Nobody }
+    if driven {
+        Named::Number(driver)
+    } else {
+        Named::Nobody
+    }
 }
 
 // The board's answer to a cycle; `command`: at least one unit takes it as a selected command.

@@ -109,11 +109,11 @@ unfolding judging ahead some-of
 judged-turn j i c s ss =
     let r : Registers = s .unit .registers in
     let own = own-turn (ownNumberOf r (s .select) (asking c)) (j .number) (j .refuser) i (lowestFrom (suc i) (map (seatNumber c) ss))
-        (lowestFrom i (seatNumber c s ∷ map (seatNumber c) ss)) (eqb (j .number) 0) refl (own-next i c s (map (seatNumber c) ss)) in
+    (lowestFrom i (seatNumber c s ∷ map (seatNumber c) ss)) (eqb (j .number) 0) refl (own-next i c s (map (seatNumber c) ss)) in
     let clash = two-turn (λ s. memoryCycle c && seatDrives c s) (j .drives) (j .clash) (memoryCycle c && seatDrives c s) s ss refl in
     let several = two-turn (seatCommanded c) (j .command) (j .several) (asking c .command && s .select) s ss (commanded-is c s) in
     let command = or-assoc (j .command) (asking c .command && s .select) (some-of (seatCommanded c) ss)
-        ∙ ap (λ (t : Bool). j .command || (t || some-of (seatCommanded c) ss)) (commanded-is c s) in
+    ∙ ap (λ (t : Bool). j .command || (t || some-of (seatCommanded c) ss)) (commanded-is c s) in
     let stood = or-assoc (j .stood) (r .notes .request) (some-of requests ss) in
     λ x. record { own = own x; clash = clash x; command = command x; several = several x; stood = stood x }
 

@@ -13,7 +13,7 @@ use Rattle.rules.specs.declared.Cycle.{Cycle}
 use Rattle.rules.specs.declared.Registers.{Registers}
 use Rattle.board_rules.specs.Board.{Seat, Refusal, nobodys, some-of, two-of, requests}
 use Rattle.board_rules.specs.declared.Named.the-variants.{Number}
-use Rattle.theorems_runs.specs.Cycles.{memoryCycle}
+use Rattle.theorems_runs.specs.Cycles.{acknowledge, memoryCycle}
 use Rattle.theorems_boards.specs.Numbers.{mayDrive, seatNumber, lowestFrom, ownOf, seatDrives, seatCommanded}
 use Rattle.board_refusals.specs.declared.Asked.{Asked}
 use Rattle.board_refusals.specs.declared.Judged.{Judged}
@@ -43,10 +43,19 @@ codeNumber m read = cond read (readNumber m) (writeNumber m)
 abbrev pub asking : Cycle → Asked
 asking c = record {
   outside = outOfRange c;
+  all = c .reset || acknowledge c;
   memory = memoryCycle c;
   command = not (c .reset) && eqb (c .status) 3 && cpu c;
   number = codeNumber (commandOf (c .offset)) (c .read);
 }
+
+-- the cycle concerns a unit: a reset, an acknowledge, a command that it is selected for, or a memory cycle that it drives or that finds await,
+-- own or hold
+abbrev pub concerns : Registers → (select : Bool) → Cycle → Asked → Bool
+concerns r select c q =
+    q .all
+    || ((q .command && select)
+    || (q .memory && ((r .notes .awaits || (r .notes .own || r .notes .hold)) || mayDrive (r .control .mr) c)))
 
 -- a unit's own number, and 0 for none: 2, 1, then that of the command
 abbrev pub ownNumberOf : Registers → (select : Bool) → Asked → ℕ

@@ -55,7 +55,7 @@ module _ {A : Type 0} (f : Seat → A) (us : List Unit) (count selects : ℕ) wh
 
 -- two lists that agree from i on
 pub agree-at : {A : Type 0} (l m : List A) (i : ℕ) (d : A) → drop i l ≡ drop i m → getD l i d ≡ getD m i d
-agree-at {A} l m i d e = 
+agree-at {A} l m i d e =
     let h : getD l (i + 0) d ≡ getD m (i + 0) d = sym (getD-drop i l 0 d) ∙ ap (λ (k : List A). getD k 0 d) e ∙ getD-drop i m 0 d in
     simp unary-clauses at h
 

@@ -114,19 +114,22 @@ may-drive mr c =
     go false translates half multi mode = refl
 
 -- a unit that gives no number was refused neither by 2 nor by 1
-earliest-none : (two one three four : Bool) → earliest two one three four ≡ none → (not two && not one) ≡ true
+pub earliest-none : (two one three four : Bool) → earliest two one three four ≡ none → (not two && not one) ≡ true
 earliest-none true one three four e = let z : _≡_ {A = ℕ} 0 1 = cc in absurd (omega arith)
 earliest-none false true three four e = let z : _≡_ {A = ℕ} 0 1 = cc in absurd (omega arith)
 earliest-none false false three four e = refl
+
+pub accepted-admitted : (u : Unit) (c : Cycle) → Accepted (stepped u c .answer) → admitted u c ≡ true
+accepted-admitted u c h =
+    earliest-none (damaged (u .registers)) (outOfRange c) (unlisted c) (wrongWay c) (sym (numbers-exactly u c) ∙ h)
 
 pub accepted-form : (u : Unit) (c : Cycle) → Accepted (stepped u c .answer)
     → Form (memoryCycle c && mayDrive (u .registers .control .mr) c) (selectedCommand c) (c .reset) (acknowledge c) (stepped u c .answer)
 accepted-form u c h =
     let mr : ℕ = u .registers .control .mr in
     let none-met : refusalOf u c ≡ none = sym (numbers-exactly u c) ∙ h in
-    let in-range : admitted u c ≡ true = earliest-none (damaged (u .registers)) (outOfRange c) (unlisted c) (wrongWay c) none-met in
     let known : Form (memoryCycle c && (passingConditions mr || translationConditions mr c)) (selectedCommand c) (c .reset) (acknowledge c)
-        (stepped u c .answer) = go none-met in-range in
+    (stepped u c .answer) = go none-met (accepted-admitted u c h) in
     rw (← may-drive mr c) known
   where
     go : refusalOf u c ≡ none → admitted u c ≡ true

@@ -49,7 +49,7 @@ module _ {A : Type 0} where
   two-ext p q [] e = refl
   two-ext p q (x ∷ l) e = rw (e .0, some-ext p q l (e .1), two-ext p q l (e .1))
 
-  some-and : (b : Bool) (p : A → Bool) (l : List A) → some-of (λ x. b && p x) l ≡ (b && some-of p l)
+  pub some-and : (b : Bool) (p : A → Bool) (l : List A) → some-of (λ x. b && p x) l ≡ (b && some-of p l)
   unfolding some-of
   some-and true p l = refl
   some-and false p [] = refl
@@ -102,6 +102,9 @@ pub seats-units : (us : List Unit) (k : ℕ) → map unitOf (seated us k) ≡ us
 unfolding seated
 seats-units [] k = refl
 seats-units (u ∷ us) k = ap {B = List Unit} (λ t. u ∷ t) (seats-units us (k / 2))
+
+pub seats-some : (p : Unit → Bool) (us : List Unit) (k : ℕ) → some-of (λ s. p (s .unit)) (seated us k) ≡ some-of p us
+seats-some p us k = sym (some-map p unitOf (seated us k)) ∙ ap (λ (l : List Unit). some-of p l) (seats-units us k)
 
 pub seats-every : (P : Unit → Type 0) (us : List Unit) (k : ℕ) → Every P us → Every (λ s. P (s .unit)) (seated us k)
 unfolding seated

@@ -1,59 +1,35 @@
 -- The unit whose bytes were put into a buffer is the unit that is found there.
 -- Assumes nothing.
 use mathlib.Core.Path.{_≡_, refl, sym, ap, _∙_}
-use mathlib.Core.Bool.{Bool, false}
+use mathlib.Core.Bool.{false}
 use mathlib.Core.List.{List, [], _∷_, _++_, append-assoc}
 use Prim.Native.Nat.{ℕ, zero, suc, _+_, _*_, _<_, _≤_}
-use native.Mathlib.Nat.{add-assoc, le-of-suc-le-suc, not-suc-le-zero}
+use native.Mathlib.Nat.{le-of-suc-le-suc, not-suc-le-zero}
 use native.Mathlib.Omega.{arith}
-use lib.Dec.{ltb}
 use lib.ListN.{length, getD, take, drop, length-append}
-use borrow.Author.Tests.{le-ltb}
 use lib.Seq.{sets, sets-eq, take-suc, take-all, getD-append-add}
 use Rattle.rules.specs.PowerOn.{blank}
 use Rattle.rules.specs.declared.Descriptor.{Descriptor}
-use Rattle.rules.specs.declared.Notes.{Notes}
 use Rattle.rules.specs.declared.Registers.{Registers}
 use Rattle.rules.specs.declared.Unit.{Unit}
-use Rattle.unit_stores.proofs.Bits.{flag-found, flags-less}
-use Rattle.unit_stores.proofs.Words.{word-found}
-use Rattle.unit_stores.specs.Word.{wordAt}
-use Rattle.unit_bytes.specs.Snapshot.{descriptorSize, segments, descriptorAt, lowAt, unitSize, LAST_NOTES}
-use Rattle.unit_bytes.specs.Snapshot.{descriptorIn, tableIn, notesIn, registersIn, unitIn}
-use Rattle.unit_bytes.specs.Snapshot.{descriptorBytes, tableBytes, notesByte, registerBytes, unitBytes}
+use Rattle.unit_bytes.specs.Snapshot.{descriptorSize, segments, descriptorAt, lowAt, unitSize}
+use Rattle.unit_bytes.specs.Snapshot.{descriptorIn, tableIn, registersIn, unitIn}
+use Rattle.unit_bytes.specs.Snapshot.{descriptorBytes, tableBytes, registerBytes, unitBytes}
+use Rattle.unit_bytes.proofs.Found.{notes-found, notes-small, descriptor-past, descriptor-found}
 use Rattle.unit_bytes.proofs.Tables.{table-of}
 use Rattle.unit_bytes.specs.Cycled.{strange}
 use Rattle.theorems_kept.specs.Kept.{FoundAgain}
 
--- ---- the notes: found again, and never strange
-abbrev inOrder : Notes → List Bool
-inOrder n = n .request ∷ n .awaits ∷ n .own ∷ n .hold ∷ []
-
-notes-found : (n : Notes) → notesIn (notesByte n) ≡ n
-unfolding notesIn notesByte
-notes-found n =
-    let l : List Bool = inOrder n in
-    λ i. record { request = flag-found l 0 i; awaits = flag-found l 1 i; own = flag-found l 2 i; hold = flag-found l 3 i }
-
-notes-small : (n : Notes) → ltb LAST_NOTES (notesByte n) ≡ false
-unfolding notesByte
-notes-small n = le-ltb LAST_NOTES (notesByte n) (le-of-suc-le-suc (flags-less (inOrder n)))
-
--- ---- the table: a descriptor behind other bytes, and behind other descriptors
-past : (xs rest : List ℕ) (k : ℕ) → descriptorIn (xs ++ rest) (length xs + k) ≡ descriptorIn rest k
-unfolding wordAt descriptorIn
-past xs rest k = simp (add-assoc, getD-append-add)
-
+-- ---- the table: a descriptor behind other descriptors
 one-found : (t : List Descriptor) (rest : List ℕ) (n : ℕ) → n < length t
     → descriptorIn (tableBytes t ++ rest) (descriptorSize * n) ≡ getD t n blank
-unfolding tableBytes descriptorBytes wordAt descriptorIn
+unfolding tableBytes descriptorBytes
 one-found [] rest n h = absurd (not-suc-le-zero h)
-one-found (d ∷ t) rest zero h =
-    ap (λ (b : ℕ). record { base = b; limit = d .limit; attributes = d .attributes }) (word-found (d .base))
+one-found (d ∷ t) rest zero h = descriptor-found d (tableBytes t ++ rest)
 one-found (d ∷ t) rest (suc n) h =
     let next : descriptorSize * suc n ≡ length (descriptorBytes d) + descriptorSize * n = omega arith in
     ap (descriptorIn (descriptorBytes d ++ tableBytes t ++ rest)) next
-    ∙ past (descriptorBytes d) (tableBytes t ++ rest) (descriptorSize * n)
+    ∙ descriptor-past (descriptorBytes d) (tableBytes t ++ rest) (descriptorSize * n)
     ∙ one-found t rest n (le-of-suc-le-suc h)
 
 module _ (r : Registers) (t : List Descriptor) (rest : List ℕ) where
@@ -64,7 +40,7 @@ module _ (r : Registers) (t : List Descriptor) (rest : List ℕ) where
       let x : List ℕ = registerBytes r ++ tableBytes t ++ rest in
       ap (λ (s : List Descriptor). s ++ (descriptorIn x (descriptorAt n) ∷ [])) (table-found n (omega arith))
       ∙ ap (λ (d : Descriptor). take n t ++ (d ∷ []))
-      (past (registerBytes r) (tableBytes t ++ rest) (descriptorSize * n) ∙ one-found t rest n h)
+      (descriptor-past (registerBytes r) (tableBytes t ++ rest) (descriptorSize * n) ∙ one-found t rest n h)
       ∙ sym (take-suc t n blank h)
 
   -- ---- the registers, the low byte behind the table

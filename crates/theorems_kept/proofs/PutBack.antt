@@ -5,7 +5,7 @@ use mathlib.Core.List.{List, [], _∷_, _++_}
 use Prim.Native.Nat.{ℕ, zero, suc, _+_, _*_, _≤_}
 use native.Mathlib.Numerals.{towards-suc}
 use native.Mathlib.Omega.{arith}
-use lib.ListN.{length, getD, set, length-append}
+use lib.ListN.{length, getD, set}
 use lib.Seq.{sets, set-getD}
 use Rattle.rules.specs.declared.Descriptor.{Descriptor}
 use Rattle.unit_stores.proofs.Bits.{flags-back}
@@ -15,7 +15,7 @@ use Rattle.unit_stores.specs.Word.{wordAt}
 use Rattle.unit_bytes.specs.Snapshot.{notesAt, tableAt, descriptorSize, segments, descriptorAt, lowAt, LAST_NOTES}
 use Rattle.unit_bytes.specs.Snapshot.{descriptorIn, tableIn, notesIn, registersIn, unitIn}
 use Rattle.unit_bytes.specs.Snapshot.{descriptorBytes, tableBytes, notesByte, registerBytes, unitBytes}
-use Rattle.unit_bytes.proofs.Tables.{table-more, table-of, low-stored}
+use Rattle.unit_bytes.proofs.Tables.{table-more, table-of, table-long, low-stored}
 use Rattle.theorems_kept.specs.Kept.{Bytes}
 
 -- ---- the notes
@@ -32,20 +32,13 @@ module _ (l : List ℕ) (bytes : Bytes l) where
       let low : ℕ = getD l (suc k) 0 in
       simp (high-back high low (bytes (suc k)), low-back high low (bytes (suc k)), towards-suc, set-getD)
 
-  table-long : (n : ℕ) → length (tableIn l n) ≡ n
-  unfolding tableIn
-  table-long zero = refl
-  table-long (suc n) =
-      let h : length (tableIn l n) ≡ n = table-long n in
-      length-append (tableIn l n) (descriptorIn l (descriptorAt n) ∷ []) ∙ omega (arith, h)
-
   table-back : (n : ℕ) → sets l tableAt (tableBytes (tableIn l n)) ≡ l
   unfolding tableIn tableBytes
   table-back zero = refl
   table-back (suc n) =
       let first : List ℕ = tableBytes (tableIn l n) in
       let d : Descriptor = descriptorIn l (descriptorAt n) in
-      let long : length first ≡ descriptorSize * n = table-of (tableIn l n) n (table-long n) in
+      let long : length first ≡ descriptorSize * n = table-of (tableIn l n) n (table-long l n) in
       ap (sets l tableAt) (table-more (tableIn l n) d)
       ∙ sym (sets-append l tableAt first (descriptorBytes d))
       ∙ ap (λ (m : List ℕ). sets m (tableAt + length first) (descriptorBytes d)) (table-back n)
@@ -64,6 +57,6 @@ module _ (l : List ℕ) (bytes : Bytes l) where
       let behind : List ℕ = tableBytes (tableIn l segments) ++ (low ∷ []) in
       sym (sets-append l 0 (registerBytes (registersIn l)) behind)
       ∙ ap (λ (m : List ℕ). sets m tableAt behind) (registers-back h)
-      ∙ sym (low-stored l (tableIn l segments) low (table-long segments))
+      ∙ sym (low-stored l (tableIn l segments) low (table-long l segments))
       ∙ ap (λ (m : List ℕ). set m lowAt low) (table-back segments)
       ∙ set-getD l lowAt 0

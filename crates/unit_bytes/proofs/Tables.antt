@@ -1,11 +1,13 @@
--- What one turn does in the two loops over a table, and the byte behind it.
+-- What one turn does in the two loops over a table, and the byte behind it; and a table by its descriptors.
 -- Assumes nothing.
 use mathlib.Core.Path.{_≡_, refl, sym, ap, _∙_}
 use mathlib.Core.List.{List, [], _∷_, _++_}
-use Prim.Native.Nat.{ℕ, suc, _+_, _*_, _<_}
+use mathlib.Core.Logic.{⊎-elim}
+use Prim.Native.Nat.{ℕ, zero, suc, _+_, _*_, _<_}
+use native.Mathlib.Nat.{le-of-suc-le-suc, not-suc-le-zero, eq-or-lt-of-le}
 use native.Mathlib.Omega.{arith}
-use lib.ListN.{length, getD, set, take}
-use lib.Seq.{sets, take-suc, take-suc-set, length-take-le}
+use lib.ListN.{length, getD, set, take, length-append, List·getD-append}
+use lib.Seq.{sets, take-suc, take-suc-set, length-take-le, getD-at, ext-getD}
 use Rattle.rules.specs.PowerOn.{blank}
 use Rattle.rules.specs.declared.Descriptor.{Descriptor}
 use Rattle.unit_stores.proofs.Laws.{sets-append}
@@ -51,3 +53,30 @@ pub descriptor-read : (l : List ℕ) (t : List Descriptor) (i : ℕ) → i < len
 unfolding tableIn
 descriptor-read l t i h e =
     take-suc-set t i (descriptorIn l (descriptorAt i)) h ∙ ap (λ (r : List Descriptor). r ++ (descriptorIn l (descriptorAt i) ∷ [])) e
+
+-- ---- a table by its descriptors: how many, and which
+pub table-long : (l : List ℕ) (n : ℕ) → length (tableIn l n) ≡ n
+unfolding tableIn
+table-long l zero = refl
+table-long l (suc n) =
+    let h : length (tableIn l n) ≡ n = table-long l n in
+    length-append (tableIn l n) (descriptorIn l (descriptorAt n) ∷ []) ∙ omega (arith, h)
+
+pub table-at : (l : List ℕ) (n k : ℕ) (d : Descriptor) → k < n → getD (tableIn l n) k d ≡ descriptorIn l (descriptorAt k)
+unfolding tableIn
+table-at l zero k d h = absurd (not-suc-le-zero h)
+table-at l (suc n) k d h =
+    let last : Descriptor = descriptorIn l (descriptorAt n) in
+    let long : length (tableIn l n) ≡ n = table-long l n in
+    ⊎-elim
+    (λ (e : k ≡ n). getD-at (tableIn l n) last [] d k (long ∙ sym e) ∙ ap (λ (i : ℕ). descriptorIn l (descriptorAt i)) (sym e))
+    (λ (less : k < n). List·getD-append (tableIn l n) (last ∷ []) d k (omega arith) ∙ table-at l n k d less)
+    (eq-or-lt-of-le (le-of-suc-le-suc h))
+
+-- it is any list of as many that has them in the same places
+pub table-is : (l : List ℕ) (n : ℕ) (t : List Descriptor) (d : Descriptor) → length t ≡ n
+    → ((k : ℕ) → k < n → descriptorIn l (descriptorAt k) ≡ getD t k d) → tableIn l n ≡ t
+table-is l n t d size each =
+    let long : length (tableIn l n) ≡ n = table-long l n in
+    ext-getD d (tableIn l n) t (long ∙ sym size)
+    (λ k h. let less : k < n = omega arith in table-at l n k d less ∙ each k less)

@@ -44,7 +44,7 @@ pub const TABLE: usize = 10;
 // Where limit and attributes stand in a descriptor's bytes, behind the base, and how many these are.
 const LIMIT: usize = 2;
 
-const ATTRIBUTES: usize = 3;
+pub const ATTRIBUTES: usize = 3;
 
 pub const DESCRIPTOR: usize = 4;
 
@@ -176,7 +176,7 @@ fn notes_byte(n: Notes) -> u8
 }
 
 // The registers' bytes stored at the start, all but the low byte.
-fn put_registers(out: &mut [u8], r: Registers)
+pub fn put_registers(out: &mut [u8], r: Registers)
     requires { ⌜ tableAt ≤ length (now out) ⌝ }
     ensures { λ _. ⌜ now (out .exit) ≡ sets (now (out .entry)) 0 (registerBytes r) ⌝ }
 {
