@@ -59,7 +59,7 @@ isPassed way.Silent = false
 isPassed way.Passed = true
 isPassed way.Translated = false
 
-passing-way : (mr : ℕ) (c : Cycle) → isPassed (wayOf mr c) ≡ passingConditions mr
+pub passing-way : (mr : ℕ) (c : Cycle) → isPassed (wayOf mr c) ≡ passingConditions mr
 unfolding wayOf
 passing-way mr c =
     go (lacks mr MSEN) (lacks mr TRNS) (Bool·beq (has mr URS) (has (c .segment) UPPER)) (lacks mr MST) (Bool·beq (has mr NMS) (c .normal))
