@@ -1,0 +1,90 @@
+-- The units that the flat arrays hold: unit k has registers k, and the 64 descriptors from 64 x k on.
+-- Assumes nothing.
+use mathlib.Core.Path.{_≡_, refl, sym, ap, _∙_}
+use mathlib.Core.Logic.{_≢_}
+use mathlib.Core.List.{List, [], _∷_, map}
+use Prim.Native.Nat.{ℕ, zero, suc, _+_, _*_, _<_, _≤_}
+use native.Mathlib.Nat.{add-zero, add-suc, suc-add, not-suc-le-zero, le-of-suc-le-suc}
+use native.Mathlib.Omega.{arith}
+use lib.ListN.{length, getD, take, drop, set, replicate, length-take, length-drop}
+use lib.Seq.{getD-take, getD-drop, getD-set-same, getD-set-other, take-set-le, take-set-lt, drop-set-lt, drop-set-add}
+use Rattle.rules.specs.PowerOn.{blank, powerOn}
+use Rattle.rules.specs.declared.Descriptor.{Descriptor}
+use Rattle.rules.specs.declared.Registers.{Registers}
+use Rattle.rules.specs.declared.Unit.{Unit}
+
+abbrev pub tableOf : List Descriptor → (k : ℕ) → List Descriptor
+tableOf ts k = take 64 (drop (64 * k) ts)
+
+abbrev pub unitOf : List Registers → List Descriptor → (k : ℕ) → Unit
+unitOf rs ts k = record { table = tableOf ts k; registers = getD rs k (powerOn .registers) }
+
+-- the n units from unit k on
+unfoldable pub unitsFrom : List Registers → List Descriptor → (k n : ℕ) → List Unit
+unitsFrom rs ts k zero = []
+unitsFrom rs ts k (suc n) = unitOf rs ts k ∷ unitsFrom rs ts (suc k) n
+
+abbrev pub unitsOf : List Registers → List Descriptor → (n : ℕ) → List Unit
+unitsOf rs ts n = unitsFrom rs ts 0 n
+
+-- Lists of them
+
+from-length : (rs : List Registers) (ts : List Descriptor) (k n : ℕ) → length (unitsFrom rs ts k n) ≡ n
+unfolding unitsFrom
+from-length rs ts k zero = refl
+from-length rs ts k (suc n) = ap suc (from-length rs ts (suc k) n)
+
+pub units-length : (rs : List Registers) (ts : List Descriptor) (n : ℕ) → length (unitsOf rs ts n) ≡ n
+units-length rs ts n = from-length rs ts 0 n
+
+from-at : (rs : List Registers) (ts : List Descriptor) (k n i : ℕ) (d : Unit) → i < n → getD (unitsFrom rs ts k n) i d ≡ unitOf rs ts (k + i)
+unfolding unitsFrom
+from-at rs ts k zero i d h = absurd (not-suc-le-zero h)
+from-at rs ts k (suc n) zero d h = ap (unitOf rs ts) (sym (add-zero k))
+from-at rs ts k (suc n) (suc i) d h =
+    from-at rs ts (suc k) n i d (le-of-suc-le-suc h) ∙ ap (unitOf rs ts) (suc-add k i ∙ sym (add-suc k i))
+
+pub units-at : (rs : List Registers) (ts : List Descriptor) (n i : ℕ) (d : Unit) → i < n → getD (unitsOf rs ts n) i d ≡ unitOf rs ts i
+units-at rs ts n i d h = from-at rs ts 0 n i d h ∙ ap (unitOf rs ts) (omega arith)
+
+module _ (rs rs′ : List Registers) (ts ts′ : List Descriptor) where
+  from-same : (k n : ℕ) → ((j : ℕ) → k ≤ j → unitOf rs′ ts′ j ≡ unitOf rs ts j) → unitsFrom rs′ ts′ k n ≡ unitsFrom rs ts k n
+  unfolding unitsFrom
+  from-same k zero h = refl
+  from-same k (suc n) h =
+      ap (λ (u : Unit). u ∷ unitsFrom rs′ ts′ (suc k) n) (h k (omega arith))
+      ∙ ap (λ (l : List Unit). unitOf rs ts k ∷ l) (from-same (suc k) n (λ j e. h j (omega arith)))
+
+  from-set : (k n i m : ℕ) (v : Unit) → m ≡ k + i → i < n → ((j : ℕ) → j ≢ m → unitOf rs′ ts′ j ≡ unitOf rs ts j) → unitOf rs′ ts′ m ≡ v
+      → unitsFrom rs′ ts′ k n ≡ set (unitsFrom rs ts k n) i v
+  unfolding unitsFrom
+  from-set k zero i m v e h same here = absurd (not-suc-le-zero h)
+  from-set k (suc n) zero m v e h same here =
+      let at : m ≡ k = e ∙ add-zero k in
+      ap (λ (u : Unit). u ∷ unitsFrom rs′ ts′ (suc k) n) (ap (unitOf rs′ ts′) (sym at) ∙ here)
+      ∙ ap (λ (l : List Unit). v ∷ l) (from-same (suc k) n (λ j q. same j (λ x. omega arith)))
+  from-set k (suc n) (suc i) m v e h same here =
+      ap (λ (u : Unit). u ∷ unitsFrom rs′ ts′ (suc k) n) (same k (λ x. omega arith))
+      ∙ ap (λ (l : List Unit). unitOf rs ts k ∷ l) (from-set (suc k) n i m v (omega arith) (le-of-suc-le-suc h) same here)
+
+  -- one unit changed, and no other
+  pub units-set : (n i : ℕ) (v : Unit) → i < n → ((j : ℕ) → j ≢ i → unitOf rs′ ts′ j ≡ unitOf rs ts j) → unitOf rs′ ts′ i ≡ v
+      → unitsOf rs′ ts′ n ≡ set (unitsOf rs ts n) i v
+  units-set n i v h same here = from-set 0 n i i v (omega arith) h same here
+
+-- Stores
+
+-- a descriptor of a unit
+pub descriptor-at : (ts : List Descriptor) (k p : ℕ) (d : Descriptor) → p < 64 → getD (tableOf ts k) p d ≡ getD ts (64 * k + p) d
+descriptor-at ts k p d h = getD-take 64 (drop (64 * k) ts) p d h ∙ getD-drop (64 * k) ts p d
+
+-- one stored in the table of unit i
+pub table-here : (ts : List Descriptor) (i p : ℕ) (e : Descriptor) → p < 64 → tableOf (set ts (64 * i + p) e) i ≡ set (tableOf ts i) p e
+table-here ts i p e h = ap (take 64) (drop-set-add (64 * i) ts p e) ∙ take-set-lt 64 (drop (64 * i) ts) p e h
+
+-- leaves those of the others
+pub table-there : (ts : List Descriptor) (i p j : ℕ) (e : Descriptor) → p < 64 → j ≢ i → tableOf (set ts (64 * i + p) e) j ≡ tableOf ts j
+table-there ts i p j e h other = ?
+
+pub table-long : (ts : List Descriptor) (k : ℕ) → 64 * k + 64 ≤ length ts → length (tableOf ts k) ≡ 64
+table-long ts k h = simp (length-take, length-drop) (omega arith)
