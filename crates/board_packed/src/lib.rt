@@ -3,7 +3,7 @@ ghost use mathlib.Core.Path.{_≡_};
 ghost use Prim.Native.Nat.{_+_, _≤_};
 ghost use lib.ListN.{length};
 ghost use lib.Seq.{sets};
-ghost use Rattle.board_packed.specs.Packed.{boardWidth, namedByte, boardPacked};
+ghost use Rattle.board_packed.specs.BoardPacked.{boardWidth, namedByte, boardPacked};
 use board_rules::BoardAnswer;
 use board_rules::Named;
 

@@ -1,2 +1,3 @@
--- laws of loops over seats
+-- the rows; and laws of loops over seats
+pub mod Rows
 pub mod Ahead

@@ -67,7 +67,7 @@ fn step_all(units: [Unit; Board::UNITS], count: usize, c: Cycle, selects: u16) -
 }
 
 // The board after a cycle, and its answer.
-pub fn step(b: Board, c: BoardCycle) -> BoardStepped
+pub fn step_board(b: Board, c: BoardCycle) -> BoardStepped
     ensures { λ s. ⌜ s ≡ boardStepped b c ⌝ }
 {
     let wrong = (b.count == 0) | (Board::MOST < b.count);

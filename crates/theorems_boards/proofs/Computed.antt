@@ -3,8 +3,8 @@
 use Prim.Native.Nat.{ℕ}
 use Rattle.theorems_runs.proofs.Computed.{computed as single}
 use Rattle.rules.specs.Refusals.{damaged, outOfRange}
-use Rattle.board_rules.specs.Board.{seated, seenBy, some-of, two-of, ownFrom, verdict, driver, driverFrom, joinedByte, kindOf, joined}
-use Rattle.board_rules.specs.Board.{seatsAnswer, seatsAfter, boardAnswer, boardAfter, boardAnswers, boardFinal}
+use Rattle.board_rules.specs.Board.{seated, seenBy, some-of, two-of}
+use Rattle.board_rules.specs.Computed.{boardComputed}
 use Rattle.theorems_boards.specs.Alone.{heard}
 use Rattle.theorems_boards.specs.Numbers.{lowestFrom}
 use Rattle.theorems_boards.specs.Said.{first}
@@ -14,11 +14,6 @@ unfoldable pub conditions : ℕ
 unfolding damaged outOfRange seated seenBy some-of two-of lowestFrom first
 conditions = 0
 
--- what a board answers, and the board after a cycle
-unfoldable pub answering : ℕ
-unfolding ownFrom verdict driver driverFrom joinedByte kindOf joined seatsAnswer seatsAfter
-answering = 0
-
 unfoldable pub computed : ℕ
-unfolding single conditions answering boardAnswer boardAfter boardAnswers boardFinal heard
+unfolding single conditions boardComputed heard
 computed = 0

@@ -40,9 +40,9 @@ use Rattle.board_rules.specs.declared.BoardCycle.{BoardCycle}
 use Rattle.theorems_boards.specs.Numbers.{mayDrive, seatNumber, seatDrives, seatCommanded, expectedBy}
 use Rattle.theorems_boards.specs.Seats.{live, selectOf, refusalOf}
 use Rattle.theorems_boards.specs.Settings.{mrOf, unrefused}
-use Rattle.theorems_boards.specs.Tighter.{BoardSame, BoardCovers, BoardNearer, EachBoardLine, abortedOn, onEither, onFirst, onTranslating, onNone}
-use Rattle.theorems_boards.specs.Tighter.{boardBefore, NoWriteTo, BoardTighterBy, Tightened, BoardDemand3, BoardStopInFirst, BoardNarrowerCovers}
-use Rattle.theorems_boards.specs.Tighter.{BoardStopWhereTranslated, BoardUnstopped, OnceBy, SupToo, BoardOnce}
+use Rattle.theorems_boards.specs.BoardTighter.{BoardSame, BoardCovers, BoardNearer, EachBoardLine, abortedOn, onEither, onFirst, onTranslating, onNone}
+use Rattle.theorems_boards.specs.BoardTighter.{boardBefore, NoWriteTo, BoardTighterBy, Tightened, BoardDemand3, BoardStopInFirst, BoardNarrowerCovers}
+use Rattle.theorems_boards.specs.BoardTighter.{BoardStopWhereTranslated, BoardUnstopped, OnceBy, SupToo, BoardOnce}
 use Rattle.theorems_boards.proofs.Elements.{every-true, none-false, none-of-both, map-both, both-map, both-imp, some-⇒, two-both}
 use Rattle.theorems_boards.proofs.Forms.{Accepted}
 use Rattle.theorems_boards.proofs.Lists.{select-first, select-later}

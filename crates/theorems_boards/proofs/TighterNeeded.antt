@@ -25,8 +25,8 @@ use Rattle.board_rules.specs.declared.Board.{Board}
 use Rattle.board_rules.specs.declared.BoardAnswer.{BoardAnswer}
 use Rattle.board_rules.specs.declared.BoardCycle.{BoardCycle}
 use Rattle.theorems_boards.specs.Seats.{cycleAt}
-use Rattle.theorems_boards.specs.Tighter.{BoardCovers, BoardNearer, BoardTighterBy, Tightened, NoWriteTo, AnyCycle, onEither, boardBefore}
-use Rattle.theorems_boards.specs.Tighter.{FewerStop, BoardStopNeeded, AnyUnitStops, BoardWritesExcluded}
+use Rattle.theorems_boards.specs.BoardTighter.{BoardCovers, BoardNearer, BoardTighterBy, Tightened, NoWriteTo, AnyCycle, onEither, boardBefore}
+use Rattle.theorems_boards.specs.BoardTighter.{FewerStop, BoardStopNeeded, AnyUnitStops, BoardWritesExcluded}
 use Rattle.theorems_boards.proofs.Computed.{computed}
 use Rattle.theorems_boards.proofs.Tighter.{board-demand-3}
 

@@ -7,5 +7,5 @@ pub mod Unseen
 pub mod Said
 -- MR settings that never meet 12; two boards, one tightened, or with its units in another order
 pub mod Settings
-pub mod Tighter
+pub mod BoardTighter
 pub mod Order

@@ -8,7 +8,7 @@ use lib.Seq.{sets, length-sets}
 use Rattle.unit_packed.specs.Packed.{width, packed}
 use Rattle.unit_stores.proofs.Laws.{sets-append}
 use Rattle.board_rules.specs.declared.BoardAnswer.{BoardAnswer}
-use Rattle.board_packed.specs.Packed.{namedByte, boardPacked}
+use Rattle.board_packed.specs.BoardPacked.{namedByte, boardPacked}
 use borrow.Author.Needs.{needs}
 use Rattle.board_packed.proofs.put.Statement.{statement}
 use Rattle.board_packed.proofs.put.Tie as tie

@@ -12,7 +12,7 @@ use Rattle.trace_records.specs.Trace.{cycleOf}
 use Rattle.board_rules.specs.Board.{boardAnswers}
 use Rattle.board_rules.specs.declared.Board.{Board}
 use Rattle.board_rules.specs.declared.BoardCycle.{BoardCycle}
-use Rattle.board_packed.specs.Packed.{boardWidth, boardPackedAll}
+use Rattle.board_packed.specs.BoardPacked.{boardWidth, boardPackedAll}
 
 -- a record: the four bytes of a trace's record, the low byte, 16 select bits with the high byte first
 abbrev pub lowAt : ℕ

@@ -1,10 +1,10 @@
--- `board_step::step` meets its contract, by its three ends. Assumes nothing.
+-- `board_step::step_board` meets its contract, by its three ends. Assumes nothing.
 use mathlib.Core.Path.{sym, ap, _∙_}
 use borrow.Author.Needs.{needs}
 use Rattle.theorems_boards.proofs.Numbers.{eleven-exactly}
 use Rattle.board_step.proofs.Ends.{wrong-end, refused-end, stepped-end}
-use Rattle.board_step.proofs.step.Statement.{statement}
-use Rattle.board_step.proofs.step.Tie as tie
+use Rattle.board_step.proofs.step_board.Statement.{statement}
+use Rattle.board_step.proofs.step_board.Tie as tie
 
 returns : tie.Need-returns
 returns c =
@@ -45,8 +45,8 @@ returns-3 c =
     (stepped .step-all .result .joint) (sym (stepped .before .before .refuses .ensures) ∙ stepped .before .if2 .left)
     (eleven-exactly (start .b) .0 (tested .if1 .left) .0) (stepped .step-all .ensures .2) (stepped .step-all .ensures .0) (stepped .step-all .ensures .1)
 
-pub step-spec : {M : Type 1} → statement M
-step-spec =
+pub step-board-spec : {M : Type 1} → statement M
+step-board-spec =
     tie.close
     (tie.spec
     (λ c κs. search needs)
