@@ -6,6 +6,8 @@
 //! default body. `Document01` takes every default; a wrong reading, made to
 //! test the tests, replaces one method and leaves the rest.
 
+pub mod board;
+pub mod board_script;
 pub mod checks;
 pub mod commands;
 pub mod coverage;
@@ -13,6 +15,7 @@ pub mod cycle;
 pub mod generate;
 pub mod memory;
 pub mod packed;
+pub mod packed_board;
 pub mod recording;
 pub mod script;
 pub mod step;
@@ -24,6 +27,7 @@ pub mod unit;
 /// The paper as it stands.
 pub struct Document01;
 
+impl board::Board for Document01 {}
 impl checks::Checks for Document01 {}
 impl commands::Commands for Document01 {}
 impl memory::Memory for Document01 {}

@@ -23,7 +23,7 @@ fn letter(kind: Kind) -> (u8, u8) {
     }
 }
 
-fn pack(answer: &Answer) -> [u8; BYTES] {
+pub(crate) fn pack(answer: &Answer) -> [u8; BYTES] {
     let (letter, number) = letter(answer.kind);
     let [high, low] = answer.address.unwrap_or(0).to_be_bytes();
     let flags = u8::from(answer.address.is_some())

@@ -29,9 +29,9 @@ pub fn play(script: &str, mut unit: Unit, step: &mut Step) -> String {
             text.push('\n');
         } else if let Some(new) = parse_unit(line) {
             unit = new;
-        } else if let Some((number, descriptor)) = parse_descriptor(line) {
-            unit.table[number] = descriptor;
-        } else if let Some(cycle) = parse_cycle(line) {
+        } else if let Some((number, new)) = line.strip_prefix("D ").and_then(descriptor) {
+            unit.table[number] = new;
+        } else if let Some(cycle) = line.strip_prefix("C ").and_then(cycle) {
             text.push_str(&step_line(&mut unit, &cycle, step));
         } else {
             text.push_str("?\n");
@@ -102,9 +102,13 @@ impl fmt::Display for Descriptor {
 
 /// The unit of a `U` line.
 pub fn parse_unit(line: &str) -> Option<Unit> {
-    let [mr, sar, dscr, vtr, vsn, voff, bcsr, isn, ioff, notes, low] =
-        bytes(line.strip_prefix("U ")?)?;
-    Some(Unit {
+    unit(line.strip_prefix("U ")?).map(|(unit, _)| unit)
+}
+
+/// A unit of these fields with an empty table, and its notes byte as given.
+pub(crate) fn unit(fields: &str) -> Option<(Unit, u8)> {
+    let [mr, sar, dscr, vtr, vsn, voff, bcsr, isn, ioff, notes, low] = bytes(fields)?;
+    let unit = Unit {
         mr,
         sar,
         dscr,
@@ -120,22 +124,23 @@ pub fn parse_unit(line: &str) -> Option<Unit> {
         own: notes & 4 != 0,
         hold: notes & 8 != 0,
         ..Unit::power_on()
-    })
+    };
+    Some((unit, notes))
 }
 
-fn parse_descriptor(line: &str) -> Option<(usize, Descriptor)> {
-    let mut fields = line.strip_prefix("D ")?.split(' ');
+pub(crate) fn descriptor(fields: &str) -> Option<(usize, Descriptor)> {
+    let mut fields = fields.split(' ');
     let number = usize::from(hex(fields.next()?, 2)?);
     let descriptor = Descriptor {
         base: hex(fields.next()?, 4)?,
-        limit: hex(fields.next()?, 2)? as u8,
-        attributes: hex(fields.next()?, 2)? as u8,
+        limit: byte(fields.next()?)?,
+        attributes: byte(fields.next()?)?,
     };
     (number < 64 && fields.next().is_none()).then_some((number, descriptor))
 }
 
-fn parse_cycle(line: &str) -> Option<Cycle> {
-    let [status, flags, segment, offset, low, data] = bytes(line.strip_prefix("C ")?)?;
+pub(crate) fn cycle(fields: &str) -> Option<Cycle> {
+    let [status, flags, segment, offset, low, data] = bytes(fields)?;
     Some(Cycle {
         status,
         read: flags & 0x01 != 0,
@@ -152,16 +157,17 @@ fn parse_cycle(line: &str) -> Option<Cycle> {
 
 /// Exactly N fields of two hexadecimal digits.
 fn bytes<const N: usize>(fields: &str) -> Option<[u8; N]> {
-    let parsed: Option<Vec<u8>> = fields
-        .split(' ')
-        .map(|field| hex(field, 2).map(|value| value as u8))
-        .collect();
+    let parsed: Option<Vec<u8>> = fields.split(' ').map(byte).collect();
     parsed?.try_into().ok()
+}
+
+pub(crate) fn byte(field: &str) -> Option<u8> {
+    hex(field, 2).map(|value| value as u8)
 }
 
 /// The digits are looked at one by one because the standard parser lets a
 /// plus sign through.
-fn hex(field: &str, digits: usize) -> Option<u16> {
+pub(crate) fn hex(field: &str, digits: usize) -> Option<u16> {
     let good = field.len() == digits && field.bytes().all(|byte| byte.is_ascii_hexdigit());
     good.then(|| u16::from_str_radix(field, 16).ok())?
 }

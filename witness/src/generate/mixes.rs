@@ -35,18 +35,25 @@ fn program(random: &mut Random, open: bool, records: &mut Vec<Record>) {
     let mut write = |code: u8, byte: u8| records.push([0x83, 0, code, byte]);
     write(0x20, 0);
     write(0x01, 0);
+    for byte in table(random, open) {
+        write(0x0F, byte);
+    }
+    write(0x00, 0xC0 | (random.byte() % 8));
+}
+
+/// The bytes of 64 descriptors; open ones have few flags and much room.
+pub(super) fn table(random: &mut Random, open: bool) -> Vec<u8> {
+    let mut bytes = Vec::new();
     for _ in 0..64 {
-        write(0x0F, random.byte());
-        write(0x0F, random.byte());
-        write(0x0F, random.byte() | if open { 0x80 } else { 0 });
-        let attributes = match (open, random.below(8)) {
+        bytes.extend([random.byte(), random.byte()]);
+        bytes.push(random.byte() | if open { 0x80 } else { 0 });
+        bytes.push(match (open, random.below(8)) {
             (true, 0) => 1 << random.below(6),
             (true, _) => 0,
             (false, _) => random.byte() & random.byte() & 0x3F,
-        };
-        write(0x0F, attributes);
+        });
     }
-    write(0x00, 0xC0 | (random.byte() % 8));
+    bytes
 }
 
 fn next(mix: usize, random: &mut Random) -> Record {
@@ -62,7 +69,7 @@ fn next(mix: usize, random: &mut Random) -> Record {
 }
 
 /// A third are fetches; one in sixteen of the others is DMA.
-fn memory(random: &mut Random, lower_half: bool) -> Record {
+pub(super) fn memory(random: &mut Random, lower_half: bool) -> Record {
     let fetch = random.once_in(3);
     let status = random.pick(&[0x8, 0x8, 0x8, 0x9, 0x9, 0xA, 0xB, 0xC]);
     let read = fetch || !random.once_in(3);
@@ -85,7 +92,7 @@ fn memory(random: &mut Random, lower_half: bool) -> Record {
 }
 
 /// Descriptor bytes mostly; now and then a set or clear command, or a bad code.
-fn command(random: &mut Random) -> Record {
+pub(super) fn command(random: &mut Random) -> Record {
     let common = random.pick(&[
         0x00, 0x01, 0x02, 0x03, 0x04, 0x05, 0x06, 0x07, 0x08, 0x09, 0x0A, 0x0B, 0x0B, 0x0B, 0x0C,
         0x0D, 0x0E, 0x0F, 0x0F, 0x0F, 0x0F, 0x11, 0x13, 0x14, 0x20, 0x12, 0x30,
@@ -106,7 +113,7 @@ fn command(random: &mut Random) -> Record {
 }
 
 /// Any record, with resets made rare and codes often listed ones.
-fn noise(random: &mut Random) -> Record {
+pub(super) fn noise(random: &mut Random) -> Record {
     let reset = if random.once_in(64) { 0x80 } else { 0 };
     let codes = if random.coin() { 0x0F } else { 0xFF };
     [

@@ -1,5 +1,7 @@
-//! Seeded captures and step scripts that reach deep states of a unit.
+//! Seeded captures, step scripts and board scripts that reach deep states.
 
+pub mod board_mixes;
+pub mod boards;
 pub mod bus;
 pub mod edge;
 pub mod low;

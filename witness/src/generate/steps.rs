@@ -125,7 +125,7 @@ fn lines(scene: &Scene, unit_said: bool) -> String {
     text
 }
 
-fn cycle_fields(cycle: &Cycle) -> String {
+pub(super) fn cycle_fields(cycle: &Cycle) -> String {
     let flags = u8::from(cycle.read)
         | u8::from(cycle.normal) << 1
         | u8::from(cycle.dma) << 2

@@ -1,5 +1,11 @@
 //! The tests of the witness, in one program.
 
+mod board;
+mod board_laws;
+mod board_packed;
+mod board_runs;
+mod board_scripts;
+mod board_tighter;
 mod distance;
 mod exchange;
 mod generated;

@@ -176,13 +176,13 @@ fn translating(random: &mut Random) -> u8 {
 }
 
 /// Any byte, but mostly 0 or 1.
-fn small(random: &mut Random) -> u8 {
+pub fn small(random: &mut Random) -> u8 {
     random.byte() & random.pick(&[0x01, 0x01, 0xFF])
 }
 
 /// Any code. MR often, since a reset leaves no unit translating, clear VTR,
 /// since some things are recorded only after it, and registers that show them.
-fn code(random: &mut Random) -> u8 {
+pub fn code(random: &mut Random) -> u8 {
     match random.below(9) {
         0 | 1 => MR,
         2 | 3 => CLEAR_VTR,

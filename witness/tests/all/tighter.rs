@@ -17,7 +17,7 @@ use crate::rows::{acknowledge, read, unit, write, TRANSLATES};
 
 /// The same base and direction, every flag that the wider one has and perhaps
 /// more, and no wider a range. REF and CHG may be any.
-fn tightened(random: &mut Random, wider: &Descriptor) -> Descriptor {
+pub fn tightened(random: &mut Random, wider: &Descriptor) -> Descriptor {
     let limit = match (random.once_in(3), wider.has(DIRW)) {
         (true, _) => wider.limit,
         (_, true) => random.between(usize::from(wider.limit), 0xFF) as u8,

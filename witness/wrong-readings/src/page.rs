@@ -1,6 +1,6 @@
 //! docs/WRONG-READINGS.md: the wrong readings, counted by the rule they break.
 
-use witness::generate::{CASES, COMPARED, SCRIPTS};
+use witness::generate::{boards, CASES, COMPARED, SCRIPTS};
 
 use crate::judged::{Judged, CAPTURES};
 
@@ -89,6 +89,46 @@ const RULES: &[(&str, &str)] = &[
     ("Layout::decode", "the bytes of a record"),
     ("Text::power_on", "power-on"),
     ("Text::run", "the text of a run"),
+    (
+        "Board::board_refusal",
+        "a board: the order of its refusals, and whom 11 to 13 name",
+    ),
+    ("Board::bad_count", "a board: 11"),
+    ("Board::looked_at", "a board: which units are looked at"),
+    (
+        "Board::unit_refusal",
+        "a board: any unit's own refusal, lowest unit first",
+    ),
+    (
+        "Board::own_refusal",
+        "a board: a unit's own refusal, strange notes among them",
+    ),
+    ("Board::collides", "a board: 12"),
+    ("Board::drives", "a board: which units would drive"),
+    ("Board::reads_several", "a board: 13"),
+    (
+        "Board::board_step",
+        "a board: it stays as it was; the unit that is named",
+    ),
+    ("Board::refused", "a board: what a refusal shows"),
+    (
+        "Board::refused_trap",
+        "a board: the trap line after a refusal",
+    ),
+    ("Board::selected", "a board: the select bits"),
+    ("Board::given", "a board: the cycle's own select"),
+    (
+        "Board::step_all",
+        "a board: what units share, and whom a cycle goes to",
+    ),
+    ("Board::driver", "a board: the unit that drives"),
+    ("Board::named", "a board: the unit that is named"),
+    ("Board::joined_kind", "a board: the kind"),
+    ("Board::join", "a board: the address"),
+    ("Board::joined_sup", "a board: SUP"),
+    ("Board::joined_trap", "a board: the trap line"),
+    ("Board::joined_data", "a board: the acknowledge lines"),
+    ("Board::joined_distance", "a board: the distance"),
 ];
 
 /// The page, or what keeps it from being printed.
@@ -131,12 +171,14 @@ fn fit(judged: &[Judged]) -> Result<(), String> {
     Ok(())
 }
 
-/// How some wrong readings are told: by how many captures each, and by how many
-/// cases those that no capture tells.
+/// How some wrong readings are told: by how many captures each, by how many
+/// cases of step scripts those that no capture tells, and those of a board by how
+/// many of board scripts.
 struct Told {
     readings: usize,
     captures: Vec<usize>,
     cases_alone: Vec<usize>,
+    boards: Vec<usize>,
 }
 
 impl Told {
@@ -144,15 +186,17 @@ impl Told {
         let (by_captures, others): (Vec<&Judged>, Vec<&Judged>) =
             judged.clone().partition(|judged| judged.captures > 0);
         let cases = others.iter().map(|judged| judged.cases);
+        let boards = others.iter().map(|judged| judged.boards);
         Told {
             readings: judged.count(),
             captures: by_captures.iter().map(|judged| judged.captures).collect(),
             cases_alone: cases.filter(|cases| *cases > 0).collect(),
+            boards: boards.filter(|boards| *boards > 0).collect(),
         }
     }
 
     fn same(&self) -> usize {
-        self.readings - self.captures.len() - self.cases_alone.len()
+        self.readings - self.captures.len() - self.cases_alone.len() - self.boards.len()
     }
 
     fn row(&self, words: &str, rule: &str) -> String {
@@ -164,34 +208,35 @@ impl Told {
             }
         };
         let least = |counts: &[usize]| counts.iter().min().map_or(String::new(), usize::to_string);
-        let (captures, cases) = (&self.captures, &self.cases_alone);
-        let cells = [
+        let mut cells = vec![
             words.to_string(),
             rule.to_string(),
             self.readings.to_string(),
-            counted(captures.len()),
-            least(captures),
-            counted(cases.len()),
-            least(cases),
-            counted(self.same()),
         ];
+        for told in [&self.captures, &self.cases_alone, &self.boards] {
+            cells.extend([counted(told.len()), least(told)]);
+        }
+        cells.push(counted(self.same()));
         format!("| {} |\n", cells.join(" | "))
     }
 }
 
 fn head(all: &Told) -> String {
-    let (readings, same) = (all.readings, all.same());
+    let (readings, same, boards) = (all.readings, all.same(), all.boards.len());
     let (captures, cases) = (all.captures.len(), all.cases_alone.len());
+    let (board_scripts, board_cases) = (boards::SCRIPTS, boards::CASES);
     format!(
         "# Wrong readings of document 01
 
 A test is worth what it can tell. A wrong reading is a small change of the witness (`witness/wrong-readings`): a rule \
 of document 01, or of a ticket that has landed, is read wrongly, and every other as it stands. The generated captures, \
-or the generated scripts of hand-made units, must tell it from the right one: on some of them it prints something else.
+or the generated scripts of hand-made units, or those of boards, must tell it from the right one: on some of them it \
+prints something else.
 
-There are {readings} wrong readings. {captures} are told by captures; {cases} by scripts alone, since no capture reaches \
+There are {readings} wrong readings. {captures} are told by captures; {cases} by step scripts alone, since no capture reaches \
 a damaged unit (an orphan is one), a number out of range, own without await or a low byte other than 0, or shows own or \
-the kept low byte; {same} cannot be told, because they come out the same. The first {COMPARED} captures and all scripts go through the proved programs in \
+the kept low byte; {boards}, of a board, by board scripts, since nothing else has one; {same} cannot be told, because they \
+come out the same. The first {COMPARED} captures and all scripts go through the proved programs in \
 `tools/compare`, and these alone tell every wrong reading that can be told.
 
     sh tools/wrong-readings
@@ -201,11 +246,12 @@ anew, and `sh tools/wrong-readings list` prints every wrong reading by name, wit
 tell it. None of them is a part of `tools/test`.
 
 Each row is a rule, with its name in the witness; then how many wrong readings of it there are; how many of them \
-captures tell, and by how many of {CAPTURES} captures at least; how many only scripts tell, and by how many of \
-{SCRIPTS} x {CASES} cases at least; and how many nothing can tell.
+captures tell, and by how many of {CAPTURES} captures at least; how many only step scripts tell, and by how many of \
+{SCRIPTS} x {CASES} cases at least; how many board scripts tell, and by how many of {board_scripts} x {board_cases} cases \
+at least; and how many nothing can tell.
 
-| Rule | In the witness | Wrong readings | By captures | At least | By scripts alone | At least | Not |
-|---|---|---|---|---|---|---|---|
+| Rule | In the witness | Wrong readings | By captures | At least | By step scripts alone | At least | By board scripts | At least | Not |
+|---|---|---|---|---|---|---|---|---|---|
 "
     )
 }

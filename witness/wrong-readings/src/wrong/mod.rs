@@ -1,6 +1,10 @@
-//! Wrong readings of document 01. Each replaces one rule of the paper and
-//! keeps the rest; captures and step scripts must tell it from the right one.
+//! Wrong readings of document 01 and its tickets. Each replaces one rule of the
+//! paper and keeps the rest; captures, step scripts or, for those of a board,
+//! board scripts must tell it from the right one.
 
+mod board_joins;
+mod board_refusals;
+mod board_steps;
 mod checks;
 mod commands;
 mod memory;
@@ -10,38 +14,42 @@ mod text;
 mod trace;
 mod translation;
 
+use witness::board::Board;
 use witness::checks::Checks;
 use witness::cycle::{Answer, Cycle, Kind};
-use witness::script;
 use witness::text::Text;
 use witness::unit::Unit;
-use witness::Document01;
+use witness::{board_script, script, Document01};
 
-/// One wrong reading, with the text that it prints for a trace and for a step
-/// script.
+/// What a wrong reading prints: that of a unit for a trace and for a step script,
+/// that of a board for a board script.
+pub enum Prints {
+    Unit {
+        run: fn(&[u8]) -> Vec<u8>,
+        play: fn(&str) -> String,
+    },
+    Board(fn(&[u8]) -> Vec<u8>),
+}
+
 pub struct Wrong {
     /// The rule that it breaks, as `Trait::method`; the first, if there are two.
     pub rule: &'static str,
     pub says: &'static str,
     /// Why nothing can tell it from the right reading, if nothing can.
     pub same: Option<&'static str>,
-    pub run: fn(&[u8]) -> Vec<u8>,
-    pub play: fn(&str) -> String,
+    pub prints: Prints,
 }
 
-impl Wrong {
-    const fn reading<R: Text>(
-        rule: &'static str,
-        says: &'static str,
-        same: Option<&'static str>,
-    ) -> Wrong {
-        Wrong {
-            rule,
-            says,
-            same,
+impl Prints {
+    const fn of_unit<R: Text>() -> Prints {
+        Prints::Unit {
             run: R::run,
             play: script::run::<R>,
         }
+    }
+
+    const fn of_board<R: Board>() -> Prints {
+        Prints::Board(board_script::run::<R>)
     }
 }
 
@@ -56,6 +64,9 @@ pub fn readings() -> Vec<&'static Wrong> {
         memory::READINGS,
         trace::READINGS,
         text::READINGS,
+        board_refusals::READINGS,
+        board_steps::READINGS,
+        board_joins::READINGS,
     ];
     subjects.into_iter().flatten().collect()
 }
@@ -85,12 +96,22 @@ macro_rules! wrong {
             $crate::wrong::with_paper!($rules $name { fn $method $($methods)* });
         )*
         pub const READINGS: &[$crate::wrong::Wrong] = &[$(
-            $crate::wrong::Wrong::reading::<$name>(
-                concat!(stringify!($rules), "::", stringify!($method)),
-                $says,
-                $crate::wrong::reason!($($same)?),
-            )
+            $crate::wrong::Wrong {
+                rule: concat!(stringify!($rules), "::", stringify!($method)),
+                says: $says,
+                same: $crate::wrong::reason!($($same)?),
+                prints: $crate::wrong::prints!($rules $name),
+            }
         ),*];
+    };
+}
+
+macro_rules! prints {
+    (Board $name:ident) => {
+        $crate::wrong::Prints::of_board::<$name>()
+    };
+    ($rules:ident $name:ident) => {
+        $crate::wrong::Prints::of_unit::<$name>()
     };
 }
 
@@ -105,6 +126,11 @@ macro_rules! reason {
 
 /// The methods go to the named trait; the paper has the others.
 macro_rules! with_paper {
+    (Board $name:ident $methods:tt) => {
+        impl witness::board::Board for $name $methods
+        $crate::wrong::paper!($name: checks::Checks commands::Commands memory::Memory
+            recording::Recording step::Step translation::Translation);
+    };
     (Checks $name:ident $methods:tt) => {
         impl witness::checks::Checks for $name $methods
         $crate::wrong::paper!($name: commands::Commands memory::Memory recording::Recording
@@ -153,4 +179,4 @@ macro_rules! paper {
     };
 }
 
-pub(crate) use {paper, reason, with_paper, wrong};
+pub(crate) use {paper, prints, reason, with_paper, wrong};
