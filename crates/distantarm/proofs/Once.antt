@@ -12,6 +12,8 @@ use Rattle.distantarm.proofs.distantarm_power_on.Kinds as distantarm-po
 use Rattle.distantarm.proofs.distantarm_power_on.Reads as distantarm-power-on
 use Rattle.distantarm.proofs.distantarm_cycle.Kinds as distantarm-cycle-k
 use Rattle.distantarm.proofs.distantarm_cycle.Reads as distantarm-cycle
+use Rattle.distantarm.proofs.distantarm_board_cycle.Kinds as distantarm-board-cycle-k
+use Rattle.distantarm.proofs.distantarm_board_cycle.Reads as distantarm-board-cycle
 use Rattle.distantarm.proofs.distantarm_list.Kinds as distantarm-list-k
 use Rattle.distantarm.proofs.distantarm_list.Reads as distantarm-list
 
@@ -29,6 +31,14 @@ pub distantarm-cycle-only : (κs : Lfts 2) (a b : Dens κs distantarm-cycle-k.ps
     → distantarm-cycle.Learnt κs a x e → distantarm-cycle.Learnt κs b y f
     → (x ≡ y) × (now (e .0) ≡ now (f .0)) × (now (e .1 .0) ≡ now (f .1 .0))
 distantarm-cycle-only κs a b x y e f s p q = (cc, cc, cc)
+
+-- the units, the packed answer, and the count with the cycle and its selects
+pub distantarm-board-cycle-only : (κs : Lfts 2) (a b : Dens κs distantarm-board-cycle-k.ps) (x y : ℕ)
+    (e f : AtExit (endedOf 2 distantarm-board-cycle-k.ps distantarm-board-cycle-k.r) κs)
+    → (now (a .0) ≡ now (b .0)) × (now (a .1 .0) ≡ now (b .1 .0)) × (a .1 .1 ≡ b .1 .1)
+    → distantarm-board-cycle.Learnt κs a x e → distantarm-board-cycle.Learnt κs b y f
+    → (x ≡ y) × (now (e .0) ≡ now (f .0)) × (now (e .1 .0) ≡ now (f .1 .0))
+distantarm-board-cycle-only κs a b x y e f s p q = (cc, cc, cc)
 
 -- the trace, and the buffer of the text
 pub distantarm-list-only : (κs : Lfts 2) (a b : Dens κs distantarm-list-k.ps) (x y : ℕ)

@@ -13,6 +13,8 @@ use Rattle.unit_bytes.specs.Snapshot.{unitSize, unitBytes}
 use Rattle.unit_bytes.specs.Cycled.{Cycled}
 use Rattle.unit_packed.specs.Packed.{width}
 use Rattle.unit_stores.specs.Put.{NO_ROOM}
+use Rattle.board_rules.specs.declared.BoardCycle.{BoardCycle}
+use Rattle.board_bytes.specs.Boarded.{Boarded}
 
 -- a buffer without room for a unit, or for a packed answer
 abbrev pub noUnit : List ℕ → Bool
@@ -46,3 +48,14 @@ noRoom unit answer = noUnit unit || noAnswer answer
 -- the same of buffers of any length
 abbrev pub Called : Cycle → (unit answer unit′ answer′ : List ℕ) → (number : ℕ) → Type 0
 Called c unit answer unit′ answer′ number = Cycled (noRoom unit answer) c unit answer unit′ answer′ number
+
+-- ---- a cycle of a board
+
+-- the board's cycle of the numbers that a caller hands over; the cycle's own select is looked at by nothing
+abbrev pub boardGiven : (status : ℕ) (read normal dma : Bool) (segment offset low byte : ℕ) (reset : Bool) (selects : ℕ) → BoardCycle
+boardGiven status read normal dma segment offset low byte reset selects =
+    record { cycle = given status read normal dma false segment offset low byte reset; selects = selects }
+
+-- of buffers of any length and of any count
+abbrev pub BoardCalled : BoardCycle → (count : ℕ) → (units answer units′ answer′ : List ℕ) → (number : ℕ) → Type 0
+BoardCalled c count units answer units′ answer′ number = Boarded c count units answer units′ answer′ number

@@ -1,24 +1,24 @@
 // Reads a script from standard input, and writes what a unit answers to each of its cycles, with the registers and one descriptor after it.
 // The functions here only have to be safe and to end: what they read and write is held to the stored text, and to the second model.
-ghost use Prim.Native.Nat.{_≤_};
-ghost use lib.ListN.{length};
-
-mod parse;
+mod lines;
 mod show;
 
 use libc::STDIN_FILENO;
 use rules::Change;
 use rules::Unit;
 use rules_flags::pick;
+use test_lines::line_end;
+use test_lines::parse;
+use test_lines::show::other;
 use unit_lent::step_by_lending;
 use unit_step::table;
 
 // The unit with the descriptor of a `D` line.
 fn with_descriptor(u: Unit, line: &[u8]) -> Unit {
-    let d = parse::descriptor_in(line);
+    let d = parse::descriptor_in(line, 0);
     let t = u.table;
     let registers = u.registers;
-    let place = parse::number(line, parse::PLACE);
+    let place = parse::number(line, 0, parse::FIRST);
     let table = table::changed(Change::Put(d), place, t);
     Unit { table, registers }
 }
@@ -39,30 +39,15 @@ fn stepped(u: Unit, line: &[u8]) -> Unit {
 
 // The unit after a line; one that asks for nothing is answered at once.
 fn obeyed(u: Unit, line: &[u8]) -> Unit {
-    match parse::kind_of(line) {
-        b'U' => parse::unit_in(line),
+    match lines::kind_of(line) {
+        b'U' => lines::unit_in(line),
         b'D' => with_descriptor(u, line),
         b'C' => stepped(u, line),
         _ => {
-            show::other(line);
+            other(line);
             u
         }
     }
-}
-
-// Where the line from an index on ends: at its line feed, or where the script does.
-fn line_end(script: &[u8], from: usize) -> usize
-    requires { ⌜ from ≤ length (now script) ⌝ }
-    ensures { λ r. ⌜ (from ≤ r) × (r ≤ length (now (script .entry))) ⌝ }
-{
-    let mut i = from;
-    while i < script.len() {
-        if script[i] == b'\n' {
-            return i;
-        }
-        i += 1;
-    }
-    i
 }
 
 // Every line of the script.

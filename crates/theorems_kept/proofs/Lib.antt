@@ -1,3 +1,4 @@
 pub mod PutBack
 pub mod FoundAgain
 pub mod Kept
+pub mod Boards

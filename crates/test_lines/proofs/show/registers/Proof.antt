@@ -1,10 +1,10 @@
--- `test_script::show::registers` is safe and ends: its turns are counted. Assumes nothing.
+-- `test_lines::show::registers` is safe and ends: its turns are counted. Assumes nothing.
 use mathlib.Core.Path.{_≡_}
 use Prim.Native.Nat.{_≤_, _-_}
 use borrow.Author.Needs.{needs}
 use lib.ListN.{length}
-use Rattle.test_script.proofs.show.registers.Statement.{statement}
-use Rattle.test_script.proofs.show.registers.Tie as tie
+use Rattle.test_lines.proofs.show.registers.Statement.{statement}
+use Rattle.test_lines.proofs.show.registers.Tie as tie
 
 abbrev Inv-loop : tie.InvT-loop
 Inv-loop bytes line₀ i₀ line i = (i ≤ 10) × (length line ≡ 35)

@@ -1,9 +1,9 @@
--- `test_script::line_end` meets its contract: the index stays within the script, and each turn passes a byte. Assumes nothing.
+-- `test_lines::line_end` meets its contract: the index stays within the script, and each turn passes a byte. Assumes nothing.
 use Prim.Native.Nat.{_≤_, _-_}
 use borrow.Author.Needs.{needs}
 use lib.ListN.{length}
-use Rattle.test_script.proofs.line_end.Statement.{statement}
-use Rattle.test_script.proofs.line_end.Tie as tie
+use Rattle.test_lines.proofs.line_end.Statement.{statement}
+use Rattle.test_lines.proofs.line_end.Tie as tie
 
 abbrev Inv-loop : tie.InvT-loop
 Inv-loop script from i₀ i = (from ≤ i) × (i ≤ length script)

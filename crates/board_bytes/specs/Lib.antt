@@ -1,0 +1,2 @@
+-- a board whose units are kept in bytes
+pub mod Boarded
