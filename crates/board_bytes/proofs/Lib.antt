@@ -2,4 +2,3 @@
 pub mod Turns
 pub mod Held
 pub mod Ends
-pub mod Once

@@ -1,7 +1,7 @@
 -- The right answer, for every argument: a call that no other crate's proof uses agrees with the calls that it stands for, by what a caller
 -- learns of each. Assumes nothing.
 use mathlib.Core.Bool.{Bool, false, cond, _||_}
-use mathlib.Core.List.{List}
+use mathlib.Core.List.{List, [], _∷_}
 use mathlib.Core.Path.{_≡_, sym, ap, _∙_}
 use Prim.Native.Nat.{ℕ, _+_}
 use contract.Lifetimes.{Lfts}
@@ -11,7 +11,7 @@ use denote.Triple.Clauses.{AtExit}
 use lib.Dec.{eqb, ltb}
 use lib.ListN.{length, getD}
 use lib.Seq.{sets}
-use Rattle.distantarm.specs.Interface.{startNumber, startBytes}
+use Rattle.distantarm.specs.Interface.{startNumber, startBytes, boardGiven}
 use Rattle.unit_packed.specs.Packed.{width, packed}
 use Rattle.trace_reader.specs.Reading.{stepNumber, stepValues, givenBy, givenAt, afterOf}
 use Rattle.rules.specs.Kinds.{numberOf}
@@ -21,6 +21,22 @@ use Rattle.rules.specs.declared.Unit.{Unit as UnitRec}
 use Rattle.unit_bytes.specs.Snapshot.{notesAt, unitSize, LAST_NOTES, unitIn, unitBytes}
 use Rattle.trace_records.specs.Trace.{partOf, cycleOf}
 use Rattle.unit_bytes.specs.Cycled.{cycleNumber, cycleAnswer, cycleBytes, answerBy, bytesBy}
+use Rattle.rules.specs.Runs.{answers, final}
+use Rattle.board_rules.specs.Board.{boardAnswer, boardAnswers, boardFinal}
+use Rattle.board_rules.specs.declared.BoardAnswer.{BoardAnswer}
+use Rattle.board_rules.specs.declared.BoardCycle.{BoardCycle}
+use Rattle.board_rules.specs.declared.BoardStepped.{BoardStepped}
+use Rattle.rules.specs.Seen.{cycleWith}
+use Rattle.board_bytes.specs.Boarded.{boardIn, boardBytes, noRoom, callNumber, callAnswer, callUnits}
+use Rattle.theorems_boards.specs.Alone.{asBoards, boardOfOne}
+use Rattle.theorems_boards.specs.Seats.{cycleAt}
+use Rattle.theorems_boards.proofs.One.{one-is-the-unit}
+use Rattle.board_bytes.proofs.cycle.Kinds as cycle-k
+use Rattle.board_bytes.proofs.cycle.Reads as cycle
+use Rattle.board_step.proofs.step_board.Kinds as step-board-k
+use Rattle.board_step.proofs.step_board.Reads as step-board
+use Rattle.distantarm.proofs.distantarm_board_cycle.Kinds as distantarm-board-cycle-k
+use Rattle.distantarm.proofs.distantarm_board_cycle.Reads as distantarm-board-cycle
 use Rattle.rules.proofs.Unit.power_on.Kinds as power-on-k
 use Rattle.rules.proofs.Unit.power_on.Reads as power-on
 use Rattle.unit_step.proofs.step.step.Kinds as step-k
@@ -50,6 +66,21 @@ pub step-by-lending-agrees : (κs : Lfts 0) (a : Dens κs step-k.ps) (x y : resT
     (e : AtExit (endedOf 0 step-k.ps step-k.r) κs) (f : AtExit (endedOf 0 step-by-lending-k.ps step-by-lending-k.r) κs)
     → step.Learnt κs a x e → step-by-lending.Learnt κs a y f → x ≡ y
 step-by-lending-agrees κs a x y e f p q = cc
+
+-- a board of one unit is the unit, with bit 0 of the selects as its select; the units behind it stay
+pub step-board-agrees : (κs : Lfts 0) (u : UnitRec) (us : List UnitRec) (c : BoardCycle) (s : Stepped) (t : BoardStepped)
+    (e : AtExit (endedOf 0 step-k.ps step-k.r) κs) (f : AtExit (endedOf 0 step-board-k.ps step-board-k.r) κs)
+    → step.Learnt κs (u, (cycleAt 0 c, tt)) s e
+    → step-board.Learnt κs (record { units = u ∷ us; count = 1 }, (c, tt)) t f
+    → (t .answer ≡ asBoards (s .answer)) × (t .board ≡ record { units = s .unit ∷ us; count = 1 })
+unfolding boardAnswers boardFinal answers final
+step-board-agrees κs u us c s t e f p q =
+    let alone = one-is-the-unit u us (c ∷ []) in (
+      ap (λ (b : BoardStepped). b .answer) q
+          ∙ ap (λ (l : List BoardAnswer). getD l 0 (asBoards (s .answer))) (alone .0)
+          ∙ ap (λ (x : Stepped). asBoards (x .answer)) (sym p),
+      ap (λ (b : BoardStepped). b .board) q ∙ alone .1 ∙ ap (λ (x : Stepped). boardOfOne (x .unit) us) (sym p),
+    )
 
 pub shown-at-agrees : (κs : Lfts 1) (a : Dens κs part-k.ps) (x y : resT part-k.r κs .Denot)
     (e : AtExit (endedOf 1 part-k.ps part-k.r) κs) (f : AtExit (endedOf 1 shown-at-k.ps shown-at-k.r) κs)
@@ -110,3 +141,25 @@ distantarm-cycle-agrees κs κ₀ u v c s x e f room sane p q = (
       ∙ ap (λ (b : Bool). sets (now v) 0 (packed (answerBy b (now u) c))) sane
       ∙ ap (λ (t : Stepped). sets (now v) 0 (packed (t .answer))) (sym p),
 )
+
+-- a cycle of a board as `distantarm_board_cycle` takes it, and as `board_bytes::cycle` does
+abbrev pub handedBoard : BoardCycle → ℕ × (Bool × (Bool × (Bool × (ℕ × (ℕ × (ℕ × (ℕ × (Bool × (ℕ × Unit {0})))))))))
+handedBoard c =
+    let b : Cycle = c .cycle in
+    (b .status, (b .read, (b .normal, (b .dma, (b .segment, (b .offset, (b .low, (b .byte, (b .reset, (c .selects, tt))))))))))
+
+pub distantarm-board-cycle-agrees : (κs : Lfts 2) (u v : RefT (List ℕ)) (count : ℕ) (c : BoardCycle) (x y : ℕ)
+    (e : AtExit (endedOf 2 cycle-k.ps cycle-k.r) κs) (f : AtExit (endedOf 2 distantarm-board-cycle-k.ps distantarm-board-cycle-k.r) κs)
+    → c .cycle .select ≡ false
+    → cycle.Learnt κs (u, (v, (count, (c .cycle, (c .selects, tt))))) x e
+    → distantarm-board-cycle.Learnt κs (u, (v, (count, handedBoard c))) y f
+    → (x ≡ y) × (now (e .0) ≡ now (f .0)) × (now (e .1 .0) ≡ now (f .1 .0))
+distantarm-board-cycle-agrees κs u v count c x y e f off p q =
+    let b : Cycle = c .cycle in
+    let short : Bool = noRoom (now u) (now v) count in
+    let same : c ≡ boardGiven (b .status) (b .read) (b .normal) (b .dma) (b .segment) (b .offset) (b .low) (b .byte) (b .reset) (c .selects) =
+        λ i. record { cycle = cycleWith (b .status) (b .read) (b .normal) (b .dma) (off i) (b .segment) (b .offset) (b .low) (b .byte) (b .reset); selects = c .selects } in (
+      p .says ∙ ap (λ (k : BoardCycle). callNumber short (boardAnswer (boardIn (now u) count) k)) same ∙ sym (q .says),
+      p .leaves ∙ ap (λ (k : BoardCycle). callUnits short (now u) (boardBytes (now u) count k)) same ∙ sym (q .leaves),
+      p .shows ∙ ap (λ (k : BoardCycle). callAnswer short (now v) (boardAnswer (boardIn (now u) count) k)) same ∙ sym (q .shows),
+    )

@@ -39,6 +39,12 @@ use Rattle.run.proofs.run.Kinds as run-k
 use Rattle.run.proofs.run.Reads as run
 use Rattle.text.proofs.listing.list.Kinds as list-k
 use Rattle.text.proofs.listing.list.Reads as list
+use Rattle.board_step.proofs.step_board.Kinds as step-board-k
+use Rattle.board_step.proofs.step_board.Reads as step-board
+use Rattle.board_bytes.proofs.cycle.Kinds as cycle-k
+use Rattle.board_bytes.proofs.cycle.Reads as cycle
+use Rattle.distantarm.proofs.distantarm_board_cycle.Kinds as distantarm-board-cycle-k
+use Rattle.distantarm.proofs.distantarm_board_cycle.Reads as distantarm-board-cycle
 use Rattle.unit_lent.proofs.step_by_lending.Kinds as step-by-lending-k
 use Rattle.unit_lent.proofs.step_by_lending.Reads as step-by-lending
 use Rattle.trace_reader.proofs.read_at.Kinds as read-at-k
@@ -112,6 +118,15 @@ distantarm-power-on-free κs a = tt
 
 pub distantarm-cycle-free : Free 2 distantarm-cycle-k.ps distantarm-cycle.Asked
 distantarm-cycle-free κs a = tt
+
+pub step-board-free : Free 0 step-board-k.ps step-board.Asked
+step-board-free κs a = tt
+
+pub cycle-free : Free 2 cycle-k.ps cycle.Asked
+cycle-free κs a = tt
+
+pub distantarm-board-cycle-free : Free 2 distantarm-board-cycle-k.ps distantarm-board-cycle.Asked
+distantarm-board-cycle-free κs a = tt
 
 pub distantarm-list-free : Free 2 distantarm-list-k.ps distantarm-list.Asked
 distantarm-list-free κs a = tt

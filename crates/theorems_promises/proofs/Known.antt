@@ -16,7 +16,11 @@ use Rattle.text.specs.Listed.{filled, lengthOf}
 use Rattle.trace_reader.specs.declared.Found.{Found}
 use Rattle.trace_reader.specs.declared.Step.the-variants.{Record, No}
 use Rattle.rules.specs.Seen.{segment, translating, cycleWith, cycle, translated}
+use Rattle.rules.specs.PowerOn.{powerOn}
 use Rattle.rules.specs.declared.Cycle.{Cycle}
+use Rattle.board_rules.specs.declared.BoardCycle.{BoardCycle}
+use Rattle.board_rules.specs.declared.BoardStepped.{BoardStepped}
+use Rattle.board_rules.specs.declared.Named.the-variants.{Number}
 use Rattle.rules.specs.declared.Stepped.{Stepped}
 use Rattle.unit_lent.proofs.step_by_lending.Kinds as step-by-lending-k
 use Rattle.unit_lent.proofs.step_by_lending.Reads as step-by-lending
@@ -31,7 +35,11 @@ use Rattle.distantarm.proofs.distantarm_cycle.Kinds as distantarm-cycle-k
 use Rattle.distantarm.proofs.distantarm_cycle.Reads as distantarm-cycle
 use Rattle.distantarm.proofs.distantarm_list.Kinds as distantarm-list-k
 use Rattle.distantarm.proofs.distantarm_list.Reads as distantarm-list
-use Rattle.theorems_promises.proofs.Agree.{handed}
+use Rattle.board_step.proofs.step_board.Kinds as step-board-k
+use Rattle.board_step.proofs.step_board.Reads as step-board
+use Rattle.distantarm.proofs.distantarm_board_cycle.Kinds as distantarm-board-cycle-k
+use Rattle.distantarm.proofs.distantarm_board_cycle.Reads as distantarm-board-cycle
+use Rattle.theorems_promises.proofs.Agree.{handed, handedBoard}
 use Rattle.theorems_promises.proofs.Computed.{allComputed}
 
 -- a lent buffer, wherever it stands
@@ -52,6 +60,9 @@ dataRead = cycleWith 8 true false false false 0 21 77 0 false
 
 abbrev dataWrite : Cycle
 dataWrite = cycleWith 8 false true false false 0 21 77 0 false
+
+abbrev boardRead : BoardCycle
+boardRead = record { cycle = dataRead; selects = 0 }
 
 -- record 5: a system data read, 11 blocks from the edge. The eighth byte of the lent answer is left
 pub distantarm-cycle-known : (κs : Lfts 2) (p q : ℕ × ℕ) (g h x : ℕ) (e : AtExit (endedOf 2 distantarm-cycle-k.ps distantarm-cycle-k.r) κs)
@@ -84,6 +95,31 @@ pub distantarm-cycle-room : (κs : Lfts 2) (p q : ℕ × ℕ) (g h x y z : ℕ)
     × ((z ≡ 255) × (now (f .0) ≡ replicate 267 0) × (now (f .1 .0) ≡ replicate 6 9))
 unfolding allComputed
 distantarm-cycle-room κs p q g h x y z d e f k l m = (k .says, (l .says, l .leaves, l .shows), (m .says, m .leaves, m .shows))
+
+-- a board of two units, the second of them switched off: unit 0 translates the same read, and is named. The ninth byte of the lent answer and
+-- the byte behind the units are left
+pub distantarm-board-cycle-known : (κs : Lfts 2) (p q : ℕ × ℕ) (g h x : ℕ)
+    (e : AtExit (endedOf 2 distantarm-board-cycle-k.ps distantarm-board-cycle-k.r) κs)
+    → distantarm-board-cycle.Learnt κs (lent p g (turnedOn 1 ++ (replicate 267 0 ++ (7 ∷ []))), (lent q h (replicate 9 9), (2, handedBoard boardRead))) x e
+    → (x ≡ 0) × (now (e .0) ≡ turnedOn 129 ++ (replicate 267 0 ++ (7 ∷ [])))
+    × (now (e .1 .0) ≡ 84 ∷ 0 ∷ 35 ∷ 38 ∷ 1 ∷ 0 ∷ 11 ∷ 0 ∷ 9 ∷ [])
+unfolding allComputed
+distantarm-board-cycle-known κs p q g h x e l = (l .says, l .leaves, l .shows)
+
+-- both units switched on: 12, nobody is named, and every byte is left. A count of 17 is 11, with no room asked of the units; seven bytes for an
+-- answer, and a byte less of the units, are no room
+pub distantarm-board-cycle-refuses : (κs : Lfts 2) (p q : ℕ × ℕ) (g h w x y z : ℕ)
+    (c d e f : AtExit (endedOf 2 distantarm-board-cycle-k.ps distantarm-board-cycle-k.r) κs)
+    → distantarm-board-cycle.Learnt κs (lent p g (turnedOn 1 ++ turnedOn 1), (lent q h (replicate 8 9), (2, handedBoard boardRead))) w c
+    → distantarm-board-cycle.Learnt κs (lent p g [], (lent q h (replicate 8 9), (17, handedBoard boardRead))) x d
+    → distantarm-board-cycle.Learnt κs (lent p g (turnedOn 1), (lent q h (replicate 7 9), (1, handedBoard boardRead))) y e
+    → distantarm-board-cycle.Learnt κs (lent p g (replicate 533 0), (lent q h (replicate 8 9), (2, handedBoard boardRead))) z f
+    → ((w ≡ 12) × (now (c .0) ≡ turnedOn 1 ++ turnedOn 1) × (now (c .1 .0) ≡ 88 ∷ 12 ∷ 0 ∷ 0 ∷ 0 ∷ 0 ∷ 0 ∷ 255 ∷ []))
+    × ((x ≡ 11) × (now (d .1 .0) ≡ 88 ∷ 11 ∷ 0 ∷ 0 ∷ 0 ∷ 0 ∷ 0 ∷ 255 ∷ []))
+    × ((y ≡ 255) × (now (e .1 .0) ≡ replicate 7 9)) × ((z ≡ 255) × (now (f .0) ≡ replicate 533 0))
+unfolding allComputed
+distantarm-board-cycle-refuses κs p q g h w x y z c d e f i j k l =
+    ((i .says, i .leaves, i .shows), (j .says, j .shows), (k .says, k .shows), (l .says, l .leaves))
 
 -- the text of the sample, in a buffer with room, and in one without
 pub distantarm-list-known : (κs : Lfts 2) (p q : ℕ × ℕ) (g h x : ℕ) (l : List ℕ)
@@ -123,6 +159,17 @@ read-at-known κs p g x y e f l m = (
   finds-only input 5 x (record { step = Record (cycleWith 8 true false false false 0 21 0 0 false); next = 6 }) l ((refl, refl), refl),
   finds-only input 9 y (record { step = No 9; next = 9 }) m ((refl, refl), refl),
 )
+
+-- the same cycle, on a board of two unit records, of which unit 1 has the segment
+pub step-board-known : (κs : Lfts 0) (s : BoardStepped) (e : AtExit (endedOf 0 step-board-k.ps step-board-k.r) κs)
+    → step-board.Learnt κs (record { units = powerOn ∷ translating (segment 8977 32 1) ∷ []; count = 2 },
+    (record { cycle = cycle false true false 8 0 21; selects = 0 }, tt)) s e
+    → s ≡ record {
+      board = record { units = powerOn ∷ translating (segment 8977 32 129) ∷ []; count = 2 };
+      answer = record { answer = translated 8998 false false 11; named = Number 1 };
+    }
+unfolding allComputed
+step-board-known κs s e l = l
 
 -- the same cycle, on the unit record
 pub step-by-lending-known : (κs : Lfts 0) (s : Stepped) (e : AtExit (endedOf 0 step-by-lending-k.ps step-by-lending-k.r) κs)

@@ -33,6 +33,8 @@ use Rattle.trace_records.proofs.decode.Kinds as decode-k
 use Rattle.trace_records.proofs.decode.Reads as decode
 use Rattle.run.proofs.run.Kinds as run-k
 use Rattle.run.proofs.run.Reads as run
+use Rattle.board_bytes.proofs.cycle.Kinds as cycle-k
+use Rattle.board_bytes.proofs.cycle.Reads as cycle
 use Rattle.text.proofs.listing.list.Kinds as list-k
 use Rattle.text.proofs.listing.list.Reads as list
 
@@ -108,3 +110,10 @@ pub list-only : Two 2 list-k.ps list-k.r list.Learnt
     (λ κs a b. (now (a .0) ≡ now (b .0)) × (now (a .1 .0) ≡ now (b .1 .0)))
     (λ κs a b x y e f. (x ≡ y) × (now (e .1 .0) ≡ now (f .1 .0)))
 list-only κs a b x y e f s p q = (cc, cc)
+
+-- Two lent buffers: the units of a board and the packed answer, with the count, the cycle and its selects
+
+pub cycle-only : Two 2 cycle-k.ps cycle-k.r cycle.Learnt
+    (λ κs a b. (now (a .0) ≡ now (b .0)) × (now (a .1 .0) ≡ now (b .1 .0)) × (a .1 .1 ≡ b .1 .1))
+    (λ κs a b x y e f. (x ≡ y) × (now (e .0) ≡ now (f .0)) × (now (e .1 .0) ≡ now (f .1 .0)))
+cycle-only κs a b x y e f s p q = (cc, cc, cc)
