@@ -32,6 +32,7 @@ struct cycle {
 };
 
 static const struct cycle data_read = {8, 5, 0x15, 0, true, false}, fetch = {13, 5, 0x15, 0, true, false};
+static const struct cycle past_limit = {8, 5, 0x21, 0x77, false, false};
 static const struct cycle acknowledge = {4, 0, 0, 0, true, false}, reset = {8, 5, 0x15, 0, true, true}, nothing = {0, 0, 0, 0, true, false};
 static const struct cycle write_mode = {3, 0, 0x00, 0x47, false, false}, read_mode = {3, 0, 0x00, 0, true, false};
 static const struct cycle unlisted = {3, 0, 0x12, 0, true, false}, wrong_way = {3, 0, 0x11, 0, true, false};
@@ -196,31 +197,42 @@ static void lowest_first(void)
         }
 }
 
-/* Every unit as the one that drives, in a board of every count: named, with its own lines, distance and kind. */
+/* The answer of a board whose unit n alone drives: it is named, if it is within the count. */
+static void drives(const uint8_t *within, uint8_t *units, size_t n, size_t count, struct cycle c, uint16_t selects, const char *what)
+{
+    uint8_t said[ANSWER] = {DISTANTARM_IGNORED, 0, 0, 0, 0, 0, 0, DISTANTARM_NOBODY};
+
+    if (n < count) {
+        memcpy(said, within, DISTANTARM_ANSWER_BYTES);
+        said[DISTANTARM_NAMED] = (uint8_t)n;
+    }
+    answers(said, units, count, c, selects, what);
+}
+
+/* Every unit as the one that drives, in a board of every count: its own lines, distance and kind. Its violation is its own, and keeps the low
+ * byte. */
 static void drivers(void)
 {
     static const uint8_t descriptor[] = {0x23, 0x11, 0x20, 0};
-    static const uint8_t translated[ANSWER] = {DISTANTARM_TRANSLATED, 0, 0x23, 0x26, DISTANTARM_ADDRESS, 0, 11, 0};
-    static const uint8_t passed[ANSWER] = {DISTANTARM_PASSED, 0, 0x05, 0x15, DISTANTARM_ADDRESS, 0, 0, 0};
-    static const uint8_t nobody[ANSWER] = {DISTANTARM_IGNORED, 0, 0, 0, 0, 0, 0, DISTANTARM_NOBODY};
-    uint8_t units[ALL + PAST], said[ANSWER];
+    static const uint8_t translated[DISTANTARM_ANSWER_BYTES] = {DISTANTARM_TRANSLATED, 0, 0x23, 0x26, DISTANTARM_ADDRESS, 0, 11};
+    static const uint8_t passed[DISTANTARM_ANSWER_BYTES] = {DISTANTARM_PASSED, 0, 0x05, 0x15, DISTANTARM_ADDRESS, 0, 0};
+    static const uint8_t violates[DISTANTARM_ANSWER_BYTES] = {
+        DISTANTARM_TRANSLATED, 0, 0x23, 0x32, DISTANTARM_ADDRESS + DISTANTARM_SUP + DISTANTARM_TRAP, 0, 0,
+    };
+    uint8_t units[ALL + PAST];
     size_t n, count;
 
     for (count = 1; count <= MOST; count++)
         for (n = 0; n < MOST; n++) {
             power_on(units);
-            unit(units, n)[DISTANTARM_MR] = MSEN + TRNS;
             memcpy(unit(units, n) + DISTANTARM_TABLE + DISTANTARM_DESCRIPTOR_BYTES * 5, descriptor, sizeof descriptor);
-            memcpy(said, n < count ? translated : nobody, ANSWER);
-            if (n < count)
-                said[DISTANTARM_NAMED] = (uint8_t)n;
-            answers(said, units, count, data_read, 0xFFFF, "a unit translates");
-            answers(said, units, count, fetch, 0, "a unit translates a fetch");
             unit(units, n)[DISTANTARM_MR] = MSEN;
-            memcpy(said, n < count ? passed : nobody, ANSWER);
-            if (n < count)
-                said[DISTANTARM_NAMED] = (uint8_t)n;
-            answers(said, units, count, data_read, 0, "a unit passes");
+            drives(passed, units, n, count, data_read, 0, "a unit passes");
+            unit(units, n)[DISTANTARM_MR] = MSEN + TRNS;
+            drives(translated, units, n, count, data_read, 0xFFFF, "a unit translates");
+            drives(translated, units, n, count, fetch, 0, "a unit translates a fetch");
+            drives(violates, units, n, count, past_limit, 0, "a unit's violation");
+            expect(unit(units, n)[DISTANTARM_LOW] == (n < count ? LOW_BYTE : 0), "the low byte is kept where the violation is");
         }
 }
 
