@@ -1,7 +1,7 @@
 -- The ends of a call: the two of a board's cycle with room, and the four of the whole.
 -- Assumes nothing.
 use mathlib.Core.Path.{_≡_, refl, sym, ap, _∙_}
-use mathlib.Core.Bool.{Bool, true, false, not, cond, _&&_, _||_}
+use mathlib.Core.Bool.{Bool, true, false, not, cond}
 use mathlib.Core.List.{List, [], map}
 use mathlib.Core.Option.{Option, none, some}
 use Prim.Native.Nat.{ℕ, _≤_, _<_}
@@ -9,7 +9,6 @@ use native.Mathlib.Omega.{arith}
 use lib.ListN.{length}
 use lib.Seq.{sets}
 use Rattle.rules.specs.Kinds.{numberOf}
-use Rattle.rules.specs.declared.Cycle.{Cycle}
 use Rattle.rules.specs.declared.Unit.{Unit}
 use Rattle.unit_stores.specs.Put.{NO_ROOM}
 use Rattle.unit_bytes.specs.Snapshot.{unitIn}
@@ -26,7 +25,7 @@ use Rattle.board_answers.specs.Joint.{nothing, told, ahead}
 use Rattle.board_answers.specs.declared.Joint.{Joint}
 use Rattle.board_answers.proofs.Ends.{refused-answer, stepped-answer}
 use Rattle.board_packed.specs.BoardPacked.{boardPacked}
-use Rattle.board_bytes.specs.Boarded.{partsIn, heldIn, unitsIn, seatsIn, boardIn, steppedIn, bytesBy, boardBytes}
+use Rattle.board_bytes.specs.Boarded.{partsIn, unitsIn, seatsIn, boardIn, steppedIn, bytesBy, boardBytes}
 use Rattle.board_bytes.specs.Boarded.{noAnswer, noUnits, noRoom, callNumber, callAnswer, callUnits, Boarded}
 use Rattle.board_bytes.proofs.Held.{units-length, units-take, all-plain}
 

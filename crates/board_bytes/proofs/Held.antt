@@ -15,15 +15,14 @@ use Rattle.rules.specs.Replies.{plain, refused}
 use Rattle.rules.specs.Step.{decided, decision, stepped}
 use Rattle.rules.specs.declared.Answer.{Answer}
 use Rattle.rules.specs.declared.Cycle.{Cycle}
-use Rattle.rules.specs.declared.Registers.{Registers}
 use Rattle.rules.specs.declared.Unit.{Unit}
 use Rattle.theorems_runs.specs.Sequences.{Every}
 use Rattle.theorems_boards.proofs.Forms.{Accepted}
 use Rattle.unit_bytes.specs.Cycled.{strange, answerBy}
 use Rattle.unit_bytes.specs.Cycled.{answerOf as answerIn}
-use Rattle.unit_bytes.specs.Snapshot.{unitSize, registersIn, unitIn}
+use Rattle.unit_bytes.specs.Snapshot.{unitSize, unitIn}
 use Rattle.board_rules.specs.Board.{Seat, seated, seenBy, answerOf}
-use Rattle.board_bytes.specs.Boarded.{partsIn, heldBy, heldRegisters, heldIn, unitsIn}
+use Rattle.board_bytes.specs.Boarded.{partsIn, heldRegisters, heldIn, unitsIn}
 
 -- As many as they are counted
 

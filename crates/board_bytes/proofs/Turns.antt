@@ -1,6 +1,6 @@
 -- What one turn does in the two loops over the units' bytes: the part of the turn is the next of those that are still to come.
 -- Assumes nothing.
-use mathlib.Core.Path.{_≡_, refl, sym, ap, _∙_}
+use mathlib.Core.Path.{_≡_, sym, ap, _∙_}
 use mathlib.Core.List.{List, [], _∷_, _++_, map, append-assoc}
 use Prim.Native.Nat.{ℕ, suc, _+_, _*_, _-_, _<_, _≤_, _/_, _%_}
 use native.Mathlib.Nat.{add-sub-cancel-left}
@@ -13,7 +13,6 @@ use borrow.Rule.Slice.PartMut.{putMid}
 use Rattle.rules.specs.Step.{stepped}
 use Rattle.rules.specs.declared.Answer.{Answer}
 use Rattle.rules.specs.declared.Cycle.{Cycle}
-use Rattle.rules.specs.declared.Unit.{Unit}
 use Rattle.unit_bytes.specs.InPlace.{inPlace}
 use Rattle.unit_bytes.specs.Snapshot.{unitSize, unitIn}
 use Rattle.unit_bytes.proofs.InPlace.{in-place-length}

@@ -84,7 +84,8 @@ fn step_all(units: &mut [u8], count: usize, c: Cycle, selects: u16) -> Joint
 fn cycled(units: &mut [u8], count: usize, c: Cycle, selects: u16) -> BoardAnswer
     requires { ⌜ (1 ≤ count) × (count ≤ 16) × (unitSize * count ≤ length (now units)) ⌝ }
     ensures { λ a. ⌜ (a ≡ seatsAnswer c (seatsIn (now (units .entry)) count selects))
-        × (now (units .exit) ≡ bytesBy false (verdict c (seatsIn (now (units .entry)) count selects)) (now (units .entry)) count (record { cycle = c; selects = selects })) ⌝ }
+        × (now (units .exit) ≡ bytesBy false (verdict c (seatsIn (now (units .entry)) count selects)) (now (units .entry)) count
+        (record { cycle = c; selects = selects })) ⌝ }
 {
     let j = judge_all(units, count, c, selects);
     let refuses = board_refusals::refuses(j, c.read);

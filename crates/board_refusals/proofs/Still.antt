@@ -110,8 +110,8 @@ module _ (u : Unit) (s : Bool) (c : Cycle) where
       let one : outOfRange (seenBy s c) ≡ false = not-true _ (and-r (not (damaged r)) _ in-range) in
       let known = concerns-off (c .reset) (eqb (c .status) 4) (eqb (c .status) 3) (cpu c) s (leb 8 (c .status) && leb (c .status) 13) looks e in
       let told : ((isAcknowledge (purposeOf (c .status)) && cpu c)
-          || ((isCommand (purposeOf (c .status)) && cpu c && s) || (isMemory (purposeOf (c .status)) && looks))) ≡ false =
-          rw (acknowledge-status (c .status), command-status (c .status), memory-status (c .status)) (known .1) in
+      || ((isCommand (purposeOf (c .status)) && cpu c && s) || (isMemory (purposeOf (c .status)) && looks))) ≡ false =
+      rw (acknowledge-status (c .status), command-status (c .status), memory-status (c .status)) (known .1) in
       ap (λ (t : Bool). decidedBy t (outOfRange (seenBy s c)) (c .reset) r d (seenBy s c)) two
       ∙ ap (λ (t : Bool). decidedBy false t (c .reset) r d (seenBy s c)) one
       ∙ ap (λ (t : Bool). decidedBy false false t r d (seenBy s c)) (known .0)

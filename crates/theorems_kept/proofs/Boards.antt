@@ -28,21 +28,22 @@ use Rattle.unit_bytes.specs.Snapshot.{mrAt, sarAt, dscrAt, vtrAt, vsnAt, voffAt
 use Rattle.unit_bytes.specs.Snapshot.{segments, unitSize, descriptorAt, descriptorIn, tableIn, registersIn, unitIn, unitBytes}
 use Rattle.unit_bytes.proofs.Found.{descriptor-same}
 use Rattle.unit_bytes.proofs.InPlace.{in-place-length, in-place-never-strange, in-place-steps}
-use Rattle.board_rules.specs.Board.{Seat, seated, seatsOf, seenBy, unitOf, afterwards, Refusal, wrongCount, verdict, seatsAnswer, seatsAfter}
-use Rattle.board_rules.specs.Board.{unitsBy, boardAnswerBy, boardUnitsBy, boardAnswer, boardAfter, boardAnswers, boardFinal}
+use Rattle.board_rules.specs.Board.{Seat, seated, seatsOf, seenBy, afterwards, Refusal, wrongCount, verdict, seatsAnswer, seatsAfter}
+use Rattle.board_rules.specs.Board.{unitsBy, boardUnitsBy, boardAnswer, boardAfter, boardAnswers, boardFinal}
 use Rattle.board_rules.specs.declared.Board.{Board}
 use Rattle.board_rules.specs.declared.BoardAnswer.{BoardAnswer}
 use Rattle.board_rules.specs.declared.BoardCycle.{BoardCycle}
-use Rattle.theorems_boards.specs.Alone.{boardOn, boardOfOne, asBoards}
-use Rattle.theorems_boards.specs.Seats.{selectOf, cycleAt, refusalOf}
+use Rattle.theorems_boards.specs.Alone.{asBoards}
+use Rattle.theorems_boards.specs.Seats.{selectOf, cycleAt}
 use Rattle.theorems_boards.proofs.Lists.{seats-units, select-first, select-later}
 use Rattle.theorems_boards.proofs.Live.{answer-right}
 use Rattle.theorems_boards.proofs.Numbers.{verdict-none, seats-number}
 use Rattle.theorems_boards.proofs.One.{one-is-the-unit}
 use Rattle.board_bytes.specs.Boarded.{partsIn, partAt, heldIn, unitsIn, seatsIn, boardIn, steppedIn, bytesBy, boardBytes}
-use Rattle.board_bytes.specs.Boarded.{noUnits, noRoom, callNumber, callAnswer, callUnits, Boarded}
+use Rattle.board_bytes.specs.Boarded.{noUnits, callNumber, callAnswer, callUnits}
 use Rattle.board_bytes.proofs.Held.{units-length, units-take, held-plain, held-answers, all-plain}
-use Rattle.theorems_kept.specs.Boards.{UnitStandsAt, EachInPlace, BoardHeld, HeldAfter, BoardRefusalKeeps, BoardCallGives, OneInBytes, boardCalls, boardLeft, Roomy, TheRun}
+use Rattle.theorems_kept.specs.Boards.{UnitStandsAt, EachInPlace, BoardHeld, HeldAfter, BoardRefusalKeeps}
+use Rattle.theorems_kept.specs.Boards.{BoardCallGives, OneInBytes, boardCalls, boardLeft, Roomy, TheRun}
 use Rattle.theorems_kept.specs.Boards.{BoardCallsAreTheRun, unitsBytes, BoardFoundAgain, BoardFromPowerOnBytes}
 use Rattle.theorems_kept.proofs.FoundAgain.{unit-length, found-again, never-strange}
 

@@ -1,1 +1,1 @@
-// Theorems about a unit kept in bytes and stepped through the C interface.
+// Theorems about a unit, and a board of units, kept in bytes and stepped through the C interface.

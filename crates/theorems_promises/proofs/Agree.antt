@@ -158,7 +158,7 @@ distantarm-board-cycle-agrees κs u v count c x y e f off p q =
     let b : Cycle = c .cycle in
     let short : Bool = noRoom (now u) (now v) count in
     let same : c ≡ boardGiven (b .status) (b .read) (b .normal) (b .dma) (b .segment) (b .offset) (b .low) (b .byte) (b .reset) (c .selects) =
-        λ i. record { cycle = cycleWith (b .status) (b .read) (b .normal) (b .dma) (off i) (b .segment) (b .offset) (b .low) (b .byte) (b .reset); selects = c .selects } in (
+    λ i. record { cycle = cycleWith (b .status) (b .read) (b .normal) (b .dma) (off i) (b .segment) (b .offset) (b .low) (b .byte) (b .reset); selects = c .selects } in (
       p .says ∙ ap (λ (k : BoardCycle). callNumber short (boardAnswer (boardIn (now u) count) k)) same ∙ sym (q .says),
       p .leaves ∙ ap (λ (k : BoardCycle). callUnits short (now u) (boardBytes (now u) count k)) same ∙ sym (q .leaves),
       p .shows ∙ ap (λ (k : BoardCycle). callAnswer short (now v) (boardAnswer (boardIn (now u) count) k)) same ∙ sym (q .shows),

@@ -162,8 +162,10 @@ read-at-known κs p g x y e f l m = (
 
 -- the same cycle, on a board of two unit records, of which unit 1 has the segment
 pub step-board-known : (κs : Lfts 0) (s : BoardStepped) (e : AtExit (endedOf 0 step-board-k.ps step-board-k.r) κs)
-    → step-board.Learnt κs (record { units = powerOn ∷ translating (segment 8977 32 1) ∷ []; count = 2 },
-    (record { cycle = cycle false true false 8 0 21; selects = 0 }, tt)) s e
+    → step-board.Learnt κs (
+      record { units = powerOn ∷ translating (segment 8977 32 1) ∷ []; count = 2 },
+      (record { cycle = cycle false true false 8 0 21; selects = 0 }, tt),
+    ) s e
     → s ≡ record {
       board = record { units = powerOn ∷ translating (segment 8977 32 129) ∷ []; count = 2 };
       answer = record { answer = translated 8998 false false 11; named = Number 1 };

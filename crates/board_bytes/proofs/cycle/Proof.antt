@@ -1,7 +1,6 @@
 -- `board_bytes::cycle` meets its contract, by its four ends. Assumes nothing.
 use mathlib.Core.List.{[]}
-use Prim.Native.Nat.{ℕ, _≤_, _*_}
-use native.Mathlib.Omega.{arith}
+use Prim.Native.Nat.{_≤_, _*_}
 use lib.ListN.{length}
 use borrow.Author.Needs.{needs}
 use borrow.Author.Tests.{ltb-false}

@@ -1,20 +1,19 @@
 -- `board_bytes::judge_all` meets its contract: what is known of the first i units and the others' seats come to the whole. Assumes nothing.
-use mathlib.Core.Path.{_≡_, refl, sym, ap, _∙_}
+use mathlib.Core.Path.{_≡_, sym, ap, _∙_}
 use mathlib.Core.List.{List, map}
 use Prim.Native.Nat.{ℕ, _+_, _*_, _≤_, _-_, _/_, _%_}
 use native.Mathlib.Omega.{arith}
 use lib.Dec.{eqb}
-use lib.ListN.{length, drop, take, length-drop}
-use lib.Seq.{length-take-le}
+use lib.ListN.{length}
 use borrow.Author.Needs.{needs}
 use Rattle.rules.specs.declared.Registers.{Registers}
 use Rattle.unit_bytes.specs.Snapshot.{unitSize}
-use Rattle.board_rules.specs.Board.{Seat, seated}
+use Rattle.board_rules.specs.Board.{seated}
 use Rattle.board_refusals.specs.Judged.{unjudged, ahead, asking, judging}
 use Rattle.board_refusals.specs.declared.Asked.{Asked}
 use Rattle.board_refusals.specs.declared.Judged.{Judged}
 use Rattle.board_refusals.proofs.Laws.{known}
-use Rattle.board_bytes.specs.Boarded.{heldRegisters, heldIn, partsIn, partAt, seatsIn}
+use Rattle.board_bytes.specs.Boarded.{heldRegisters, heldIn, partAt, seatsIn}
 use Rattle.board_bytes.proofs.Turns.{rest, cut-is, rest-all, rest-none, judge-turn}
 use Rattle.board_bytes.proofs.judge_all.Statement.{statement}
 use Rattle.board_bytes.proofs.judge_all.Tie as tie

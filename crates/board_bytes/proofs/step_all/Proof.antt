@@ -4,17 +4,15 @@ use mathlib.Core.List.{List, [], map}
 use Prim.Native.Nat.{ℕ, _+_, _*_, _≤_, _-_, _/_, _%_}
 use native.Mathlib.Omega.{arith}
 use lib.Dec.{eqb}
-use lib.ListN.{length, take, drop, length-drop}
-use lib.Seq.{length-take-le}
+use lib.ListN.{length, take, drop}
 use borrow.Author.Needs.{needs}
-use borrow.Rule.Slice.PartMut.{putMid}
 use Rattle.rules.specs.Step.{stepped}
 use Rattle.rules.specs.declared.Answer.{Answer}
 use Rattle.rules.specs.declared.Cycle.{Cycle}
 use Rattle.unit_bytes.specs.InPlace.{decidedIn, inPlace}
 use Rattle.unit_bytes.specs.Snapshot.{unitSize, unitIn}
 use Rattle.unit_bytes.proofs.InPlace.{in-place-answers}
-use Rattle.board_rules.specs.Board.{Seat, seated, seenBy, answerOf}
+use Rattle.board_rules.specs.Board.{seated, seenBy, answerOf}
 use Rattle.board_answers.specs.Joint.{nothing, joining, ahead}
 use Rattle.board_answers.specs.declared.Joint.{Joint}
 use Rattle.board_bytes.specs.Boarded.{partsIn, partAt, steppedIn}
