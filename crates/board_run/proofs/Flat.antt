@@ -1,31 +1,21 @@
 -- The units that the flat arrays hold: unit k has registers k, and the 64 descriptors from 64 x k on.
 -- Assumes nothing.
 use mathlib.Core.Path.{_≡_, refl, sym, ap, _∙_}
-use mathlib.Core.Logic.{_≢_}
-use mathlib.Core.List.{List, [], _∷_, map}
-use Prim.Native.Nat.{ℕ, zero, suc, _+_, _*_, _<_, _≤_}
-use native.Mathlib.Nat.{add-zero, add-suc, suc-add, not-suc-le-zero, le-of-suc-le-suc}
+use mathlib.Core.Logic.{_≢_, ⊎-elim}
+use mathlib.Core.Bool.{Bool, true, false}
+use mathlib.Core.List.{List, _∷_}
+use Prim.Native.Nat.{ℕ, zero, suc, _+_, _*_, _-_, _<_, _≤_}
+use native.Mathlib.Nat.{add-zero, add-suc, suc-add, not-suc-le-zero, le-of-suc-le-suc, eq-or-lt-of-le}
 use native.Mathlib.Omega.{arith}
-use lib.ListN.{length, getD, take, drop, set, replicate, length-take, length-drop}
+use lib.Dec.{ltb}
+use lib.ListN.{length, getD, take, drop, set, length-take, length-drop, length-set}
 use lib.Seq.{getD-take, getD-drop, getD-set-same, getD-set-other, take-set-le, take-set-lt, drop-set-lt, drop-set-add}
-use Rattle.rules.specs.PowerOn.{blank, powerOn}
+use borrow.Author.Tests.{ltb-true, ltb-false}
+use Rattle.rules.specs.PowerOn.{powerOn}
 use Rattle.rules.specs.declared.Descriptor.{Descriptor}
 use Rattle.rules.specs.declared.Registers.{Registers}
 use Rattle.rules.specs.declared.Unit.{Unit}
-
-abbrev pub tableOf : List Descriptor → (k : ℕ) → List Descriptor
-tableOf ts k = take 64 (drop (64 * k) ts)
-
-abbrev pub unitOf : List Registers → List Descriptor → (k : ℕ) → Unit
-unitOf rs ts k = record { table = tableOf ts k; registers = getD rs k (powerOn .registers) }
-
--- the n units from unit k on
-unfoldable pub unitsFrom : List Registers → List Descriptor → (k n : ℕ) → List Unit
-unitsFrom rs ts k zero = []
-unitsFrom rs ts k (suc n) = unitOf rs ts k ∷ unitsFrom rs ts (suc k) n
-
-abbrev pub unitsOf : List Registers → List Descriptor → (n : ℕ) → List Unit
-unitsOf rs ts n = unitsFrom rs ts 0 n
+use Rattle.board_run.specs.Plan.{tableOf, unitOf, unitsFrom, unitsOf, Changed}
 
 -- Lists of them
 
@@ -82,9 +72,45 @@ descriptor-at ts k p d h = getD-take 64 (drop (64 * k) ts) p d h ∙ getD-drop (
 pub table-here : (ts : List Descriptor) (i p : ℕ) (e : Descriptor) → p < 64 → tableOf (set ts (64 * i + p) e) i ≡ set (tableOf ts i) p e
 table-here ts i p e h = ap (take 64) (drop-set-add (64 * i) ts p e) ∙ take-set-lt 64 (drop (64 * i) ts) p e h
 
+other-lt : (i j : ℕ) → j ≢ i → j ≤ i → j < i
+other-lt i j n h = ⊎-elim (λ (e : j ≡ i). absurd (n e)) (λ l. l) (eq-or-lt-of-le h)
+
 -- leaves those of the others
 pub table-there : (ts : List Descriptor) (i p j : ℕ) (e : Descriptor) → p < 64 → j ≢ i → tableOf (set ts (64 * i + p) e) j ≡ tableOf ts j
-table-there ts i p j e h other = ?
+table-there ts i p j e h other = go (ltb i j) refl
+  where
+    go : (b : Bool) → ltb i j ≡ b → tableOf (set ts (64 * i + p) e) j ≡ tableOf ts j
+    go true q =
+        let before : i < j = ltb-true i j q in
+        ap (take 64) (drop-set-lt (64 * j) ts (64 * i + p) e (omega arith))
+    go false q =
+        let behind : j ≤ i = ltb-false i j q in
+        let apart : j + 1 ≤ i = omega (arith, other-lt i j other behind) in
+        let at : 64 * i + p ≡ 64 * j + (64 * i + p - 64 * j) = omega arith in
+        ap (λ (k : ℕ). tableOf (set ts k e) j) at
+        ∙ ap (take 64) (drop-set-add (64 * j) ts (64 * i + p - 64 * j) e)
+        ∙ take-set-le 64 (drop (64 * j) ts) (64 * i + p - 64 * j) e (omega arith)
 
 pub table-long : (ts : List Descriptor) (k : ℕ) → 64 * k + 64 ≤ length ts → length (tableOf ts k) ≡ 64
 table-long ts k h = simp (length-take, length-drop) (omega arith)
+
+-- one stored is a change of one table
+pub stored-changed : (ts : List Descriptor) (i p : ℕ) (e : Descriptor) → p < 64 → Changed i (set (tableOf ts i) p e) ts (set ts (64 * i + p) e)
+stored-changed ts i p e h = record {
+  size = length-set ts (64 * i + p) e;
+  here = table-here ts i p e h;
+  there = λ j other. table-there ts i p j e h other;
+}
+
+pub kept-changed : (ts : List Descriptor) (i : ℕ) → Changed i (tableOf ts i) ts ts
+kept-changed ts i = record { size = refl; here = refl; there = λ j other. refl }
+
+-- registers and the table of one unit changed: that unit is another
+pub unit-changed : (rs : List Registers) (ts ts′ : List Descriptor) (n i : ℕ) (r : Registers) (t : List Descriptor) → i < n → n ≤ length rs
+    → Changed i t ts ts′ → unitsOf (set rs i r) ts′ n ≡ set (unitsOf rs ts n) i (record { table = t; registers = r })
+unit-changed rs ts ts′ n i r t h long e =
+    units-set rs (set rs i r) ts ts′ n i (record { table = t; registers = r }) h
+    (λ j other. ap (λ (m : List Descriptor). record { table = m; registers = getD (set rs i r) j (powerOn .registers) }) (e .there j other)
+    ∙ ap (λ (x : Registers). record { table = tableOf ts j; registers = x }) (getD-set-other rs i j r (powerOn .registers) other))
+    (ap (λ (m : List Descriptor). record { table = m; registers = getD (set rs i r) i (powerOn .registers) }) (e .here)
+    ∙ ap (λ (x : Registers). record { table = t; registers = x }) (getD-set-same rs i r (powerOn .registers) (omega arith)))

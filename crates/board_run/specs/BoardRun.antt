@@ -1,5 +1,5 @@
 -- A run of a board from power-on: the cycles of records, and a packed answer for each in a lent buffer.
-use mathlib.Core.Bool.{cond}
+use mathlib.Core.Bool.{false, cond}
 use mathlib.Core.List.{List, [], _∷_, _++_}
 use Prim.Native.Nat.{ℕ, zero, suc, _+_, _*_, _/_}
 use lib.Dec.{ltb}
@@ -9,7 +9,7 @@ use Rattle.rules.specs.PowerOn.{powerOn}
 use Rattle.rules.specs.declared.Cycle.{Cycle}
 use Rattle.unit_stores.specs.Word.{wordAt}
 use Rattle.trace_records.specs.Trace.{cycleOf}
-use Rattle.board_rules.specs.Board.{boardAnswers}
+use Rattle.board_rules.specs.Board.{nobodys, refusing, boardAnswers}
 use Rattle.board_rules.specs.declared.Board.{Board}
 use Rattle.board_rules.specs.declared.BoardCycle.{BoardCycle}
 use Rattle.board_packed.specs.BoardPacked.{boardWidth, boardPackedAll}
@@ -58,6 +58,10 @@ boardOn count = record { units = replicate count powerOn; count = count }
 -- the buffer after the first n records
 unfoldable pub boardRanTo : List ℕ → (count n : ℕ) → List ℕ → List ℕ
 boardRanTo t count n buffer = sets buffer 0 (boardPackedAll (boardAnswers (boardOn count) (boardCyclesTo t n)))
+
+-- the buffer after n refusals by 11
+unfoldable pub refusedTo : (n : ℕ) → List ℕ → List ℕ
+refusedTo n buffer = sets buffer 0 (boardPackedAll (replicate n (refusing (nobodys 11) false)))
 
 abbrev pub lesser : ℕ → ℕ → ℕ
 lesser a b = cond (ltb a b) a b
