@@ -6,7 +6,7 @@ ghost use Prim.Native.Nat.{_+_, _*_, _≤_};
 ghost use lib.ListN.{length};
 ghost use mir.Val.{boolByte};
 ghost use Rattle.rules.specs.Refusals.{damaged, outOfRange};
-ghost use Rattle.rules.specs.Step.{decided, withFlags};
+ghost use Rattle.rules.specs.Step.{decided};
 ghost use Rattle.board_rules.specs.Board.{refusing};
 ghost use Rattle.board_refusals.specs.Judged.{refusalIn};
 ghost use Rattle.board_run.specs.BoardRun.{recordSize, most, boardCycleAt, boardRanTo, refusedTo, cyclesFor};
@@ -26,6 +26,7 @@ use rules::Registers;
 use rules::Unit;
 use rules_flags::pick;
 use unit_dispatch::status;
+use unit_step::table::with_flags;
 use unit_stores::word;
 
 // The bytes of a record, and the most that are run at once.
@@ -87,17 +88,6 @@ fn cycle_at(records: &[u8], at: usize) -> BoardCycle
     BoardCycle { cycle, selects }
 }
 
-// Flags set in a descriptor.
-fn flagged(d: Descriptor, mask: u8) -> Descriptor
-    ensures { λ r. ⌜ r ≡ withFlags mask d ⌝ }
-{
-    Descriptor {
-        base: d.base,
-        limit: d.limit,
-        attributes: d.attributes | mask,
-    }
-}
-
 // Flags set in every descriptor of unit i.
 fn raised(tables: [Descriptor; ALL], i: usize, mask: u8) -> [Descriptor; ALL]
     requires { ⌜ i + 1 ≤ 16 ⌝ }
@@ -107,7 +97,7 @@ fn raised(tables: [Descriptor; ALL], i: usize, mask: u8) -> [Descriptor; ALL]
     for k in 0..Unit::DESCRIPTORS {
         let at = Unit::DESCRIPTORS * i + k;
         let d = out[at];
-        out[at] = flagged(d, mask);
+        out[at] = with_flags(d, mask);
     }
     out
 }

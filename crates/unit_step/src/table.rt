@@ -8,7 +8,7 @@ use rules::Descriptor;
 use rules::Unit;
 
 // Flags set in a descriptor.
-fn with_flags(d: Descriptor, mask: u8) -> Descriptor
+pub fn with_flags(d: Descriptor, mask: u8) -> Descriptor
     ensures { λ r. ⌜ r ≡ withFlags mask d ⌝ }
 {
     Descriptor {

@@ -39,13 +39,13 @@ loop-again c =
       search needs,
       search needs,
       simp length-set (search needs),
-      table-here (l .out) (start .i) (l .k) (c .flagged .result) here
+      table-here (l .out) (start .i) (l .k) (c .with-flags .result) here
           ∙ ap (λ (e : Descriptor). set (tableOf (l .out) (start .i)) (l .k) e)
-          (c .flagged .ensures ∙ ap f (sym (descriptor-at (l .out) (start .i) (l .k) blank here)))
+          (c .with-flags .ensures ∙ ap f (sym (descriptor-at (l .out) (start .i) (l .k) blank here)))
           ∙ ap (λ (t : List Descriptor). set t (l .k) (f (getD t (l .k) blank))) (l .inv .4)
           ∙ upTo-suc f (l .k) (tableOf (start .tables) (start .i)) blank long
           ∙ ap (λ (n : ℕ). upTo f n (tableOf (start .tables) (start .i))) (sym (add-one (l .k))),
-      λ j other. table-there (l .out) (start .i) (l .k) j (c .flagged .result) here other ∙ l .inv .5 j other,
+      λ j other. table-there (l .out) (start .i) (l .k) j (c .with-flags .result) here other ∙ l .inv .5 j other,
     )
 
 returns : tie.Need-returns Inv-loop μ-loop
