@@ -4,11 +4,9 @@ use mathlib.Core.Path.{_≡_, refl, sym, _∙_, ap}
 use mathlib.Core.Bool.{Bool, true, false, not, cond, _&&_, _||_, or-false, or-assoc}
 use mathlib.Core.List.{List, [], _∷_, map}
 use Prim.Native.Nat.{ℕ, suc}
-use lib.Bits.{bitOr, or-zero-l, or-zero-r}
+use lib.Bits.{or-zero-l, or-zero-r}
 use lib.Dec.{eqb}
 use Rattle.rules.specs.Kinds.{letterOf}
-use Rattle.rules.specs.Replies.{off}
-use Rattle.rules.specs.declared.Address.{Address}
 use Rattle.rules.specs.declared.Answer.{Answer}
 use Rattle.rules.specs.declared.Cycle.{Cycle}
 use Rattle.rules.specs.declared.Kind.{Kind}
@@ -16,14 +14,11 @@ use Rattle.rules.specs.declared.Kind.the-variants.{Reset, Acknowledge, Command,
 use Rattle.theorems_runs.proofs.Bits as bits
 use Rattle.theorems_runs.specs.Cycles.{acknowledge}
 use Rattle.theorems_runs.specs.Sequences.{Every}
-use Rattle.board_rules.specs.Board.{Seat, seenBy, answerOf, isKind, onLines, some-of, silent, driver, driverFrom, joinedByte, kindBy, kindOf, nobodyDrives, joined}
-use Rattle.board_rules.specs.declared.BoardAnswer.{BoardAnswer}
-use Rattle.board_rules.specs.declared.Named.{Named}
-use Rattle.board_rules.specs.declared.Named.the-variants.{Nobody, Number}
+use Rattle.board_rules.specs.Board.{Seat, seenBy, answerOf, isKind, some-of, silent, driver, driverFrom, joinedByte, kindBy, kindOf, joined}
 use Rattle.theorems_boards.specs.Numbers.{seatCommanded}
 use Rattle.theorems_boards.proofs.Forms.{Accepted, accepted-form}
 use Rattle.theorems_boards.proofs.Lists.{every-imp, some-ext, some-map}
-use Rattle.board_answers.specs.Joint.{aborts, nothing, takes, joining, quietly, nobodyIn, namedIn, told, Whole, held, ahead}
+use Rattle.board_answers.specs.Joint.{aborts, nothing, takes, joining, quietly, nobodyIn, told, Whole, ahead}
 use Rattle.board_answers.specs.declared.Joint.{Joint}
 
 aborts-is : (k : Kind) → aborts k ≡ eqb (letterOf k) (letterOf Aborted)

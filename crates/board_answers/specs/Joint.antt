@@ -1,6 +1,6 @@
 -- What is kept of the answers of a board's units while they are joined one after another, and what the answers of all come to.
 use mathlib.Core.Bool.{Bool, true, false, not, cond, _&&_, _||_}
-use mathlib.Core.List.{List, [], _∷_}
+use mathlib.Core.List.{List}
 use Prim.Native.Nat.{ℕ}
 use lib.Bits.{bitOr}
 use Rattle.rules.specs.Replies.{off}
@@ -10,7 +10,7 @@ use Rattle.rules.specs.declared.Cycle.{Cycle}
 use Rattle.rules.specs.declared.Kind.{Kind}
 use Rattle.rules.specs.declared.Kind.the-variants.{Reset, Acknowledge, Command, Aborted, Translated, Passed, Ignored, Refused}
 use Rattle.theorems_runs.specs.Cycles.{acknowledge}
-use Rattle.board_rules.specs.Board.{isKind, onLines, some-of, silent, driver, driverFrom, joinedByte, kindBy}
+use Rattle.board_rules.specs.Board.{isKind, some-of, silent, driver, driverFrom, joinedByte, kindBy}
 use Rattle.board_rules.specs.declared.BoardAnswer.{BoardAnswer}
 use Rattle.board_rules.specs.declared.Named.{Named}
 use Rattle.board_rules.specs.declared.Named.the-variants.{Nobody, Number}

@@ -143,12 +143,14 @@ fn kind_by(reset: bool, acknowledge: bool, command: bool, k: Kind) -> Kind
     k
 }
 
+// The kind of the unit that drives, or of nobody.
 fn either(driven: bool, k: Kind, nobody: Kind) -> Kind
     ensures { λ r. ⌜ r ≡ cond driven k nobody ⌝ }
 {
     if driven { k } else { nobody }
 }
 
+// The unit that drives, by its number.
 fn named_in(driven: bool, driver: u8) -> Named
     ensures { λ n. ⌜ n ≡ namedIn driven driver ⌝ }
 {

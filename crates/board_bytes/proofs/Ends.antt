@@ -1,9 +1,9 @@
 -- The ends of a call: the two of a board's cycle with room, and the four of the whole.
 -- Assumes nothing.
 use mathlib.Core.Path.{_≡_, refl, sym, ap, _∙_}
-use mathlib.Core.Bool.{Bool, true, false, not, cond}
+use mathlib.Core.Bool.{Bool, true, false}
 use mathlib.Core.List.{List, [], map}
-use mathlib.Core.Option.{Option, none, some}
+use mathlib.Core.Option.{Option, none}
 use Prim.Native.Nat.{ℕ, _≤_, _<_}
 use native.Mathlib.Omega.{arith}
 use lib.ListN.{length}
@@ -20,10 +20,10 @@ use Rattle.theorems_boards.proofs.Live.{answer-right, answer-wrong}
 use Rattle.theorems_boards.proofs.Numbers.{verdict-none}
 use Rattle.board_refusals.specs.Judged.{refuses, refusalIn}
 use Rattle.board_refusals.specs.declared.Judged.{Judged}
-use Rattle.board_refusals.proofs.Laws.{Known, verdict-known}
+use Rattle.board_refusals.proofs.Laws.{Known}
 use Rattle.board_answers.specs.Joint.{nothing, told, ahead}
 use Rattle.board_answers.specs.declared.Joint.{Joint}
-use Rattle.board_answers.proofs.Ends.{refused-answer, stepped-answer}
+use Rattle.board_answers.proofs.Ends.{verdict-by, refused-answer, stepped-answer}
 use Rattle.board_packed.specs.BoardPacked.{boardPacked}
 use Rattle.board_bytes.specs.Boarded.{partsIn, unitsIn, seatsIn, boardIn, steppedIn, bytesBy, boardBytes}
 use Rattle.board_bytes.specs.Boarded.{noAnswer, noUnits, noRoom, callNumber, callAnswer, callUnits, Boarded}
@@ -35,15 +35,12 @@ module _ (l : List ℕ) (count : ℕ) (c : BoardCycle) (j : Judged) (k : Known j
   abbrev seats : List Seat
   seats = seatsIn l count (c .selects)
 
-  verdict-is : (b : Bool) → refuses j (c .cycle .read) ≡ b → verdict (c .cycle) seats ≡ cond b (some (refusalIn j)) none
-  verdict-is b e = verdict-known j (c .cycle) seats k ∙ ap (λ (t : Bool). cond t (some (refusalIn j)) none) e
-
   -- it refuses
   pub refused-ends : (a : BoardAnswer) → refuses j (c .cycle .read) ≡ true → a ≡ refusing (refusalIn j) (j .stood)
       → (a ≡ seatsAnswer (c .cycle) seats) × (l ≡ bytesBy false (verdict (c .cycle) seats) l count c)
   refused-ends a e q = (
     q ∙ refused-answer j (c .cycle) seats k e,
-    sym (ap (λ (v : Option Refusal). bytesBy false v l count c) (verdict-is true e)),
+    sym (ap (λ (v : Option Refusal). bytesBy false v l count c) (verdict-by j (c .cycle) seats k true e)),
   )
 
   -- it does not, so no notes are strange
@@ -53,7 +50,7 @@ module _ (l : List ℕ) (count : ℕ) (c : BoardCycle) (j : Judged) (k : Known j
       → ahead t count [] ≡ ahead nothing 0 (map (answerOf (c .cycle)) (seated (map unitIn (partsIn l count)) (c .selects)))
       → (a ≡ seatsAnswer (c .cycle) seats) × (m ≡ bytesBy false (verdict (c .cycle) seats) l count c)
   stepped-ends a m t e one q s h =
-      let accepts : verdict (c .cycle) seats ≡ none = verdict-is false e in
+      let accepts : verdict (c .cycle) seats ≡ none = verdict-by j (c .cycle) seats k false e in
       let plain = all-plain (c .cycle) (partsIn l count) (c .selects) (verdict-none (c .cycle) seats accepts) in
       let long : length seats ≡ length (unitsIn l count) = seats-length (unitsIn l count) (c .selects) in
       let some-unit : 0 < length seats = omega (arith, long, units-length l count) in (

@@ -23,9 +23,7 @@ use rules::Cycle;
 use rules::Registers;
 use unit_bytes::in_place;
 use unit_bytes::snapshot;
-
-// The number that says that a lent buffer has no room.
-pub const NO_ROOM: u8 = 255;
+use unit_stores::NO_ROOM;
 
 // A SAR that no unit has: with it the registers meet 2.
 const NO_SAR: u8 = 64;

@@ -1,1 +1,2 @@
+-- A packed answer of a board.
 pub mod BoardPacked

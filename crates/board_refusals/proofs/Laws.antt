@@ -5,7 +5,7 @@ use mathlib.Core.Bool.{Bool, true, false, not, cond, _&&_, _||_, or-false, or-as
 use mathlib.Core.List.{List, [], _∷_, map}
 use mathlib.Core.Option.{Option, none, some}
 use Prim.Native.Nat.{ℕ, suc}
-use lib.Dec.{eqb, leb}
+use lib.Dec.{eqb}
 use Rattle.rules.specs.Bus.{cpu, write}
 use Rattle.rules.specs.Codes.{commandOf}
 use Rattle.rules.specs.Refusals.{damaged, outOfRange}
@@ -13,16 +13,15 @@ use Rattle.rules.specs.declared.Command.{Command}
 use Rattle.rules.specs.declared.Command.the-variants.{Mr, Sar, Dscr, Show, Entry, Act, Unlisted}
 use Rattle.rules.specs.declared.Cycle.{Cycle}
 use Rattle.rules.specs.declared.Registers.{Registers}
-use Rattle.board_rules.specs.Board.{Seat, seenBy, Refusal, nobodys, some-of, two-of, requests, verdict, verdictBy}
+use Rattle.board_rules.specs.Board.{Seat, seenBy, Refusal, nobodys, some-of, two-of, requests, verdict}
 use Rattle.board_rules.specs.declared.Named.the-variants.{Number}
-use Rattle.theorems_runs.specs.Cycles.{memoryCycle, listed, readOnly, setOrClear}
+use Rattle.theorems_runs.specs.Cycles.{memoryCycle, listed, readOnly}
 use Rattle.theorems_runs.specs.Refusal.{earliest}
 use Rattle.theorems_runs.proofs.Codes.{isShow, isAct, isListed, show-codes, act-codes, listed-codes}
-use Rattle.theorems_boards.specs.Numbers.{mayDrive, ownNumber, seatNumber, lowestFrom, ownOf, seatDrives, seatCommanded, inOrder, expectedBy}
+use Rattle.theorems_boards.specs.Numbers.{seatNumber, lowestFrom, ownOf, seatDrives, seatCommanded, inOrder}
 use Rattle.theorems_boards.proofs.Lists.{two-and}
 use Rattle.theorems_boards.proofs.Numbers.{verdict-is}
-use Rattle.board_refusals.specs.Judged.{codeNumber, asking, ownNumberOf, unjudged, judging, refuses, refusalIn, Judgement, judgement, twoAhead, ahead}
-use Rattle.board_refusals.specs.declared.Asked.{Asked}
+use Rattle.board_refusals.specs.Judged.{codeNumber, asking, ownNumberOf, unjudged, judging, refuses, refusalIn, Judgement, twoAhead, ahead}
 use Rattle.board_refusals.specs.declared.Judged.{Judged}
 
 -- Own numbers

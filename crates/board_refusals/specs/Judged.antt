@@ -1,9 +1,9 @@
 -- What is known of a board's units while they are judged one after another, and what it comes to.
-use mathlib.Core.Bool.{Bool, true, false, not, cond, _&&_, _||_}
-use mathlib.Core.List.{List, [], _∷_, map}
-use mathlib.Core.Option.{Option, none, some}
+use mathlib.Core.Bool.{Bool, false, not, cond, _&&_, _||_}
+use mathlib.Core.List.{List, map}
+use mathlib.Core.Option.{Option, some}
 use Prim.Native.Nat.{ℕ}
-use lib.Dec.{eqb, leb}
+use lib.Dec.{eqb}
 use Rattle.rules.specs.Bus.{cpu}
 use Rattle.rules.specs.Codes.{commandOf}
 use Rattle.rules.specs.Refusals.{damaged, outOfRange}

@@ -1,1 +1,2 @@
+-- What is known of the units while they are judged.
 pub mod Judged

@@ -1,6 +1,5 @@
 // Ticket 3's refusals: what a board refuses, judged from the registers of its units, one after another, before any unit is touched.
 ghost use mathlib.Core.Path.{_≡_};
-ghost use Rattle.rules.specs.Codes.{commandOf};
 ghost use Rattle.board_rules.specs.Board.{refusing};
 ghost use Rattle.theorems_boards.specs.Numbers.{mayDrive};
 ghost use Rattle.board_refusals.specs.Judged.{readNumber, writeNumber, asking, concerns, ownNumberOf, unjudged, judging, refuses, refusalIn};
@@ -15,6 +14,15 @@ use rules::Registers;
 use rules::Unit;
 use rules_flags::pick;
 use unit_dispatch::refusals;
+
+// The numbers of a unit's own refusals: a cycle past its numbers, a damaged unit, a code not listed, the wrong way.
+const OUTSIDE: u8 = 1;
+
+const DAMAGED: u8 = 2;
+
+const UNLISTED: u8 = 3;
+
+const WRONG_WAY: u8 = 4;
 
 // What a cycle asks of every unit alike: whether it is past its numbers, for all units (a reset, an acknowledge), a memory cycle, a command to
 // the units that are selected, and the number that says no to this command.
@@ -48,8 +56,8 @@ fn read_number(m: Command) -> u8
         Command::Dscr => 0,
         Command::Show(_) => 0,
         Command::Entry(_) => 0,
-        Command::Act(_) => 4,
-        Command::Unlisted => 3,
+        Command::Act(_) => WRONG_WAY,
+        Command::Unlisted => UNLISTED,
     }
 }
 
@@ -61,10 +69,10 @@ fn write_number(m: Command) -> u8
         Command::Mr => 0,
         Command::Sar => 0,
         Command::Dscr => 0,
-        Command::Show(_) => 4,
+        Command::Show(_) => WRONG_WAY,
         Command::Entry(_) => 0,
         Command::Act(_) => 0,
-        Command::Unlisted => 3,
+        Command::Unlisted => UNLISTED,
     }
 }
 
@@ -106,8 +114,8 @@ fn own_number_of(r: Registers, select: bool, q: Asked) -> u8
     ensures { λ n. ⌜ n ≡ ownNumberOf r select q ⌝ }
 {
     let code = pick(q.command & select, q.number, 0);
-    let healthy = pick(q.outside, 1, code);
-    pick(refusals::damaged(r), 2, healthy)
+    let healthy = pick(q.outside, OUTSIDE, code);
+    pick(refusals::damaged(r), DAMAGED, healthy)
 }
 
 // No unit was judged yet.

@@ -1,7 +1,6 @@
 -- What a loop over the seats of a board has done after i turns: the first i are mapped, and the others are still to come.
 -- Assumes nothing.
 use mathlib.Core.Path.{_≡_, refl, sym, ap, _∙_}
-use mathlib.Core.Bool.{Bool}
 use mathlib.Core.List.{List, [], _∷_, _++_, map, append-assoc, append-nil}
 use Prim.Native.Nat.{ℕ, zero, suc, _+_, _<_, _≤_, _/_, _%_}
 use native.Mathlib.Nat.{le-of-suc-le-suc, not-suc-le-zero}

@@ -174,11 +174,13 @@ joinedRows =
     row (low ∷ unit 0xC0 (notesOf false true false true) 0x1000 0 ∷ []) 0 (fetch 69 0x15) (drivesNothing kind.Aborted false false) Nobody (low ∷ low ∷ []) ∷
     []
 
--- "acknowledge lines are joined: a line is high if any unit drives it so"; driven if any unit drives. A reset gives each unit its own select.
+-- "acknowledge lines are joined: a line is high if any unit drives it so", two units on one line too; driven if any unit drives. A reset gives each unit its own select.
 abbrev pub acknowledgeRows : List BoardRow
 acknowledgeRows =
     row (unit 0xC1 asking 0 0 ∷ unit 0xC2 asking 0 0 ∷ unit 0xC4 noNote 0 0 ∷ unit 0x43 asking 0 0 ∷ []) 0 acknowledge
     (drivesByte kind.Acknowledge 0x06 false) Nobody (unit 0xC1 noNote 0 0 ∷ unit 0xC2 noNote 0 0 ∷ unit 0xC4 noNote 0 0 ∷ unit 0x43 noNote 0 0 ∷ []) ∷
+    row (unit 0xC1 asking 0 0 ∷ unit 0xC1 asking 0 0 ∷ []) 0 acknowledge (drivesByte kind.Acknowledge 0x02 false) Nobody
+    (unit 0xC1 noNote 0 0 ∷ unit 0xC1 noNote 0 0 ∷ []) ∷
     row (unit 0x41 asking 0 0 ∷ unit 0x42 asking 0 0 ∷ []) 0 acknowledge (drivesNothing kind.Acknowledge false false) Nobody
     (unit 0x41 noNote 0 0 ∷ unit 0x42 noNote 0 0 ∷ []) ∷
     row (low ∷ high ∷ unit 0xC1 asking 0 0 ∷ []) 3 reset (drivesNothing kind.Reset false false) Nobody

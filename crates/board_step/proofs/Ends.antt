@@ -1,14 +1,13 @@
 -- The three ends of a board's cycle, by value.
 -- Assumes nothing.
-use mathlib.Core.Path.{_≡_, refl, sym, _∙_, ap}
+use mathlib.Core.Path.{_≡_, sym, _∙_, ap}
 use mathlib.Core.Bool.{Bool, true, false}
-use mathlib.Core.List.{List, [], _∷_, _++_, map}
+use mathlib.Core.List.{List, [], _++_, map}
 use Prim.Native.Nat.{ℕ, _≤_, _<_}
 use native.Mathlib.Omega.{arith}
 use lib.ListN.{length, take, drop, take-append-drop, length-take}
-use Rattle.rules.specs.declared.Cycle.{Cycle}
 use Rattle.rules.specs.declared.Unit.{Unit}
-use Rattle.board_rules.specs.Board.{Seat, seated, seatsOf, answerOf, afterwards, unitOf, nobodys, wrongCount, refusing, seatsAnswer, seatsAfter}
+use Rattle.board_rules.specs.Board.{Seat, seatsOf, answerOf, afterwards, nobodys, wrongCount, refusing, seatsAnswer, seatsAfter}
 use Rattle.board_rules.specs.Board.{boardAnswerBy, boardUnitsBy, boardAnswer, boardAfter, boardStepped}
 use Rattle.board_rules.specs.declared.Board.{Board}
 use Rattle.board_rules.specs.declared.BoardAnswer.{BoardAnswer}

@@ -1,21 +1,20 @@
 -- What one turn does in the two loops over a board's units: the unit of the turn is the next of the seats that are still to come.
 -- Assumes nothing.
-use mathlib.Core.Path.{_≡_, refl, sym, ap, _∙_}
-use mathlib.Core.List.{List, [], _∷_, map}
-use Prim.Native.Nat.{ℕ, suc, _+_, _<_, _≤_, _/_, _%_}
+use mathlib.Core.Path.{_≡_, sym, ap, _∙_}
+use mathlib.Core.List.{List, map}
+use Prim.Native.Nat.{ℕ, _+_, _<_, _≤_, _/_, _%_}
 use native.Mathlib.Numerals.{add-one}
 use lib.Dec.{eqb}
 use lib.ListN.{getD, length}
-use Rattle.rules.specs.declared.Answer.{Answer}
 use Rattle.rules.specs.declared.Cycle.{Cycle}
 use Rattle.rules.specs.declared.Unit.{Unit}
 use Rattle.board_rules.specs.Board.{Seat, answerOf}
 use Rattle.board_rules.proofs.Ahead.{rest, rest-next}
-use Rattle.board_refusals.specs.Judged.{Judgement, asking, judging}
+use Rattle.board_refusals.specs.Judged.{asking, judging}
 use Rattle.board_refusals.specs.Judged.{ahead as judgedAhead}
 use Rattle.board_refusals.specs.declared.Judged.{Judged}
 use Rattle.board_refusals.proofs.Laws.{judged-turn}
-use Rattle.board_answers.specs.Joint.{Whole, joining}
+use Rattle.board_answers.specs.Joint.{joining}
 use Rattle.board_answers.specs.Joint.{ahead as joinedAhead}
 use Rattle.board_answers.specs.declared.Joint.{Joint}
 use Rattle.board_answers.proofs.Laws.{joined-turn}

@@ -5,7 +5,7 @@ ghost use Rattle.text.specs.Listed.{Listed};
 ghost use Rattle.distantarm.specs.Interface.{PoweredOn, Called, given, BoardCalled, boardGiven};
 use rules::Cycle;
 use rules::Unit;
-use run::NO_ROOM;
+use unit_stores::NO_ROOM;
 
 // The unit at power-on: 0, and its bytes at the start of the buffer. A buffer that is too short gives NO_ROOM and is left as it was.
 #[no_mangle]

@@ -16,12 +16,10 @@ use trace_header::refusal;
 use trace_records::count;
 use trace_records::decode;
 use unit_step::table;
+use unit_stores::NO_ROOM;
 
 // The bytes of the answers of the longest trace.
 pub const ROOM: usize = unit_packed::BYTES * MOST;
-
-// The number that says that the buffer has no room for all answers.
-pub const NO_ROOM: u8 = 255;
 
 // The cycle of record n, of a trace that has it.
 fn cycle_at(trace: &[u8], n: usize) -> Cycle

@@ -9,6 +9,9 @@ ghost use Rattle.unit_stores.specs.Word.{word};
 // How many values a byte has.
 pub const BYTE_VALUES: u16 = 256;
 
+// The number that says that a lent buffer has no room.
+pub const NO_ROOM: u8 = 255;
+
 // The number of two bytes, high byte first.
 pub fn word(high: u8, low: u8) -> u16
     ensures { λ n. ⌜ n ≡ word high low ⌝ }

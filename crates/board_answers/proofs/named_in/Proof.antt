@@ -1,6 +1,5 @@
 -- `board_answers::named_in` meets its contract. Assumes nothing.
 use mathlib.Core.Path.{refl}
-use borrow.Author.Needs.{needs}
 use Rattle.board_answers.proofs.named_in.Statement.{statement}
 use Rattle.board_answers.proofs.named_in.Tie as tie
 

@@ -1,9 +1,7 @@
 -- `board_step::judge_all` meets its contract: what is known of the first i units and the others' seats come to the whole. Assumes nothing.
-use mathlib.Core.Path.{_≡_, refl, sym, ap, _∙_}
-use mathlib.Core.Bool.{Bool}
+use mathlib.Core.Path.{_≡_, sym, ap, _∙_}
 use mathlib.Core.List.{List, []}
-use Prim.Native.Nat.{ℕ, suc, _+_, _≤_, _-_, _/_, _%_}
-use native.Mathlib.Numerals.{add-one}
+use Prim.Native.Nat.{ℕ, _+_, _≤_, _-_, _/_, _%_}
 use native.Mathlib.Omega.{arith}
 use lib.Dec.{eqb}
 use lib.ListN.{getD, length, take}
@@ -11,8 +9,8 @@ use borrow.Author.Needs.{needs}
 use Rattle.rules.specs.PowerOn.{powerOn}
 use Rattle.rules.specs.declared.Unit.{Unit}
 use Rattle.board_rules.specs.Board.{Seat, seated}
-use Rattle.board_rules.proofs.Ahead.{rest, rest-next, rest-none}
-use Rattle.board_refusals.specs.Judged.{unjudged, ahead, Judgement, asking, judging}
+use Rattle.board_rules.proofs.Ahead.{rest, rest-none}
+use Rattle.board_refusals.specs.Judged.{unjudged, ahead, asking, judging}
 use Rattle.board_refusals.specs.declared.Asked.{Asked}
 use Rattle.board_refusals.specs.declared.Judged.{Judged}
 use Rattle.board_refusals.proofs.Laws.{known}

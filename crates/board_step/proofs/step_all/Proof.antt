@@ -1,6 +1,6 @@
 -- `board_step::step_all` meets its contract: the first i units are stepped and joined, and the others are as they were. Assumes nothing.
 use mathlib.Core.Path.{_≡_, refl, sym, ap, _∙_}
-use mathlib.Core.List.{List, [], _++_, map}
+use mathlib.Core.List.{List, [], map}
 use Prim.Native.Nat.{ℕ, _+_, _≤_, _-_, _/_, _%_}
 use native.Mathlib.Omega.{arith}
 use lib.Dec.{eqb}
@@ -8,15 +8,14 @@ use lib.ListN.{getD, length, take, drop, length-set}
 use borrow.Author.Needs.{needs}
 use Rattle.rules.specs.PowerOn.{powerOn}
 use Rattle.rules.specs.Step.{stepped}
-use Rattle.rules.specs.declared.Answer.{Answer}
 use Rattle.rules.specs.declared.Cycle.{Cycle}
 use Rattle.rules.specs.declared.Stepped.{Stepped}
 use Rattle.rules.specs.declared.Unit.{Unit}
 use Rattle.board_rules.specs.Board.{Seat, seated, alone, answerOf, afterwards}
 use Rattle.board_rules.proofs.Ahead.{rest, rest-none, Ahead, ahead-turn, agree-at, agree-turn, whole}
-use Rattle.board_answers.specs.Joint.{nothing, joining, ahead, Whole}
+use Rattle.board_answers.specs.Joint.{nothing, joining, ahead}
 use Rattle.board_answers.specs.declared.Joint.{Joint}
-use Rattle.board_step.proofs.Turns.{seat, join-turn}
+use Rattle.board_step.proofs.Turns.{join-turn}
 use Rattle.board_step.proofs.step_all.Statement.{statement}
 use Rattle.board_step.proofs.step_all.Tie as tie
 
