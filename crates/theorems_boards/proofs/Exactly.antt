@@ -37,7 +37,7 @@ use Rattle.theorems_boards.specs.Said.{ready, Shows, DriverAddress, firs
 use Rattle.theorems_boards.specs.Said.{BoardKindExactly, unlessRefused, BoardSupExactly, BoardTrapShows}
 use Rattle.theorems_boards.proofs.Forms.{Accepted, accepted-admitted, accepted-form, may-drive}
 use Rattle.theorems_boards.proofs.Lists.{every-imp, some-ext, some-and, some-map, seats-length, seats-units, seats-some}
-use Rattle.theorems_boards.proofs.Numbers.{board-numbers-exactly, eleven-exactly}
+use Rattle.theorems_boards.proofs.Numbers.{board-numbers-exactly, good-count}
 use Rattle.theorems_boards.proofs.One.{refused-kind}
 use Rattle.theorems_boards.proofs.Said.{told, nothing, told-at, all-accepted, some-drives, names, named-on, nobody-on, none-on, driver-named}
 use Rattle.theorems_boards.proofs.Units.{unrefused, board-refusal-leaves}
@@ -241,7 +241,7 @@ refused-number b c o e = board-numbers-exactly b c ∙ ap (λ (o : Option Refusa
 -- a board that does not refuse has a unit within the count, if it has any
 some-live : (b : Board) → wrongCount (b .count) ≡ false → 0 < length (b .units) → 0 < length (live b)
 some-live b w h =
-    let n : 1 ≤ b .count = eleven-exactly b .0 w .0 in
+    let n : 1 ≤ b .count = good-count b .0 w .0 in
     simp length-take (omega arith)
 
 pub board-kind-exactly : BoardKindExactly

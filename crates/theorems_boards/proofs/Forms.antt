@@ -3,12 +3,12 @@
 -- Assumes nothing.
 use mathlib.Core.Path.{_≡_, refl, sym, _∙_, ap}
 use mathlib.Core.Bool.{Bool, true, false, not, cond, _&&_, _||_, Bool·beq, or-false}
-use mathlib.Core.List.{List, [], _∷_}
-use mathlib.Core.Option.{Option, none, some}
+use mathlib.Core.List.{[], _∷_}
+use mathlib.Core.Option.{none}
 use Prim.Native.Nat.{ℕ}
 use native.Mathlib.Omega.{arith}
 use lib.Bits.{or-zero-r}
-use lib.Dec.{eqb, leb}
+use lib.Dec.{eqb}
 use Rattle.rules.specs.Bus.{cpu}
 use Rattle.rules.specs.Flags.{has}
 use Rattle.rules.specs.Kinds.{letterOf, numberIn}
@@ -17,7 +17,6 @@ use Rattle.rules.specs.Refusals.{damaged, outOfRange}
 use Rattle.rules.specs.Replies.{off}
 use Rattle.rules.specs.Status.{purposeOf}
 use Rattle.rules.specs.Step.{stepped}
-use Rattle.rules.specs.declared.Address.{Address}
 use Rattle.rules.specs.declared.Answer.{Answer}
 use Rattle.rules.specs.declared.Cycle.{Cycle}
 use Rattle.rules.specs.declared.Kind.{Kind}
@@ -143,7 +142,8 @@ accepted-form u c h =
         (rw (command-status (c .status), memory-status (c .status), acknowledge-status (c .status), ← q) (kind-exactly u c))
         (rw (memory-status (c .status))
         (address-exactly u c
-        ∙ ap (λ (t : Bool). cond (t && memoryCycle c && (passingConditions (u .registers .control .mr) || translationConditions (u .registers .control .mr) c))
+        ∙ ap (λ (t : Bool). cond (t && memoryCycle c
+        && (passingConditions (u .registers .control .mr) || translationConditions (u .registers .control .mr) c))
         (driven (blockDriven u c)) off) a))
         (rw (memory-status (c .status))
         (distance-exactly u c

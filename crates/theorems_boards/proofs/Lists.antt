@@ -1,15 +1,15 @@
 -- Laws of lists and seats.
 -- Assumes nothing.
 use mathlib.Core.Path.{_≡_, refl, sym, _∙_, ap}
-use mathlib.Core.Bool.{Bool, true, false, cond, _&&_, _||_}
+use mathlib.Core.Bool.{Bool, true, false, _&&_, _||_}
 use mathlib.Core.List.{List, [], _∷_, _++_, map}
-use Prim.Native.Nat.{ℕ, zero, suc, _/_, _%_, _^_, _*_, _<_}
-use native.Mathlib.Nat.{not-suc-le-zero, le-of-suc-le-suc, div-one, div-div-eq-div-mul, pow-succ', suc-inj}
+use Prim.Native.Nat.{ℕ, zero, suc, _/_, _%_, _^_, _<_}
+use native.Mathlib.Nat.{not-suc-le-zero, le-of-suc-le-suc, div-one, div-div-eq-div-mul, pow-succ'}
 use native.Mathlib.Omega.{arith}
 use lib.Dec.{eqb}
-use lib.ListN.{length, getD, take, drop, replicate, length-map}
+use lib.ListN.{length, getD, take, drop, replicate}
 use Rattle.rules.specs.declared.Unit.{Unit}
-use Rattle.theorems_runs.specs.Sequences.{_⇒_, Every, Both}
+use Rattle.theorems_runs.specs.Sequences.{Every}
 use Rattle.board_rules.specs.Board.{Seat, seated, unitOf, some-of, two-of}
 use Rattle.theorems_boards.specs.Seats.{selectOf}
 

@@ -1,7 +1,7 @@
 -- Which number a board refuses a cycle with: exactly under the conditions, and in the order.
 -- Assumes nothing.
 use mathlib.Core.Path.{_≡_, refl, sym, _∙_, ap}
-use mathlib.Core.Bool.{Bool, true, false, cond, _&&_, _||_}
+use mathlib.Core.Bool.{Bool, true, false, cond, _&&_, false≢true}
 use mathlib.Core.List.{List, [], _∷_, map}
 use mathlib.Core.Option.{Option, none, some, Option·map}
 use Prim.Native.Nat.{ℕ, suc, _≤_}
@@ -15,17 +15,16 @@ use Rattle.rules.specs.declared.Answer.{Answer}
 use Rattle.rules.specs.declared.Cycle.{Cycle}
 use Rattle.rules.specs.declared.Kind.{Kind}
 use Rattle.rules.specs.declared.Kind.the-variants.{Reset, Acknowledge, Command, Aborted, Ignored}
-use Rattle.theorems_runs.specs.Cycles.{selectedCommand, memoryCycle}
+use Rattle.theorems_runs.specs.Cycles.{memoryCycle}
 use Rattle.rules.specs.Kinds.{numberIn}
 use Rattle.theorems_runs.specs.Refusal.{earliest, unlisted, wrongWay}
 use Rattle.theorems_runs.specs.Sequences.{Every}
 use Rattle.theorems_runs.proofs.Refusal.{numbers-exactly}
-use Rattle.board_rules.specs.Board.{Seat, seatsOf, seenBy, some-of, two-of, Refusal, answerOf, wrongCount, ownBy, ownFrom, verdictBy, verdict}
+use Rattle.board_rules.specs.Board.{Seat, seatsOf, seenBy, some-of, Refusal, answerOf, wrongCount, ownBy, ownFrom, verdictBy, verdict}
 use Rattle.board_rules.specs.Board.{isKind, onLines, clash, severalRead, driver, silent, kindBy, nobodyDrives, kindOf, joined, answerBy}
 use Rattle.board_rules.specs.Board.{seatsAnswer, boardAnswerBy, boardAnswer}
-use Rattle.theorems_boards.specs.Numbers.{mayDrive, seatNumber, seatDrives, seatCommanded, lowestFrom, ownOf, twoDrive, twoRead, inOrder, expectedBy, expected, BoardNumbersExactly, NamedExactly, TwelveExactly, ElevenExactly}
-use Rattle.board_rules.specs.declared.Board.{Board}
-use Rattle.board_rules.specs.declared.BoardCycle.{BoardCycle}
+use Rattle.theorems_boards.specs.Numbers.{seatNumber, seatDrives, lowestFrom, ownOf, twoDrive, twoRead, inOrder, expectedBy}
+use Rattle.theorems_boards.specs.Numbers.{BoardNumbersExactly, NamedExactly, CountGood, ElevenExactly, TwelveExactly, ThirteenExactly}
 use Rattle.theorems_boards.proofs.Forms.{Accepted, accepted-form}
 use Rattle.theorems_boards.proofs.Lists.{every-imp, two-ext, two-and, two-map}
 
@@ -120,6 +119,12 @@ pub none-own : (o : Option Refusal) (x y : Bool) → verdictBy o x y ≡ none �
 none-own none x y e = refl
 none-own (some r) x y e = e
 
+-- nor do two drive
+pub none-clash : (o : Option Refusal) (x y : Bool) → verdictBy o x y ≡ none → x ≡ false
+none-clash none true y e = let z : _≡_ {A = ℕ} 0 1 = cc in absurd (omega arith)
+none-clash none false y e = refl
+none-clash (some r) x y e = let z : _≡_ {A = ℕ} 0 1 = cc in absurd (omega arith)
+
 pub verdict-none : (c : Cycle) (ss : List Seat) → verdict c ss ≡ none → Every (λ s. Accepted (answerOf c s)) ss
 unfolding verdict
 verdict-none c ss e = own-none c 0 ss (none-own _ _ _ e)
@@ -148,7 +153,7 @@ named-exactly b c r e = go (wrongCount (b .count)) e
     go true e = cc
     go false e = rw (verdict-is (c .cycle) (seatsOf b (c .selects)) ∙ e)
 
--- 12 alone
+-- 11, 12 and 13, each alone
 
 small : (two one three four : Bool) (n : ℕ) → earliest two one three four ≡ some n → n ≤ 4
 small true one three four n e = let q : 2 ≡ n = cc in omega arith
@@ -161,7 +166,7 @@ own-small : (c : Cycle) (s : Seat) (n : ℕ) → seatNumber c s ≡ some n → n
 own-small c s n e =
     small (damaged (s .unit .registers)) (outOfRange (seenBy (s .select) c)) (unlisted (seenBy (s .select) c)) (wrongWay (seenBy (s .select) c)) n e
 
-lowest-small : (c : Cycle) (i : ℕ) (ss : List Seat) (r : Refusal) → lowestFrom i (map (seatNumber c) ss) ≡ some r → r .number ≤ 4
+pub lowest-small : (c : Cycle) (i : ℕ) (ss : List Seat) (r : Refusal) → lowestFrom i (map (seatNumber c) ss) ≡ some r → r .number ≤ 4
 unfolding lowestFrom
 lowest-small c i [] r e = let z : _≡_ {A = ℕ} 0 1 = cc in absurd (omega arith)
 lowest-small c i (s ∷ ss) r e = go (seatNumber c s) refl e (lowest-small c (suc i) ss r)
@@ -196,11 +201,60 @@ twelve-exactly b c =
           ∙ ap (λ (x : Bool). Option·map (λ r. r .number) (inOrder false none x (twoRead (c .cycle) ss))) (h .2)),
     )
 
-pub eleven-exactly : ElevenExactly
-eleven-exactly b = (
+thirteen : (wrong : Bool) (o : Option Refusal) (x y : Bool) → ((r : Refusal) → o ≡ some r → r .number ≤ 4)
+    → Option·map (λ r. r .number) (inOrder wrong o x y) ≡ some 13 → (wrong ≡ false) × (o ≡ none) × (x ≡ false) × (y ≡ true)
+thirteen true o x y l e = let q : _≡_ {A = ℕ} 11 13 = cc in absurd (omega arith)
+thirteen false (some r) x y l e =
+    let q : r .number ≡ 13 = cc in
+    let m : r .number ≤ 4 = l r refl in
+    absurd (omega arith)
+thirteen false none true y l e = let q : _≡_ {A = ℕ} 12 13 = cc in absurd (omega arith)
+thirteen false none false true l e = (refl, refl, refl, refl)
+thirteen false none false false l e = let z : _≡_ {A = ℕ} 0 1 = cc in absurd (omega arith)
+
+pub thirteen-exactly : ThirteenExactly
+thirteen-exactly b c =
+    let ss : List Seat = seatsOf b (c .selects) in (
+      (λ e. thirteen (wrongCount (b .count)) (ownOf (c .cycle) ss) (twoDrive (c .cycle) ss) (twoRead (c .cycle) ss)
+          (lowest-small (c .cycle) 0 ss) (sym (board-numbers-exactly b c) ∙ e)),
+      (λ h. board-numbers-exactly b c
+          ∙ ap (λ (w : Bool). Option·map (λ r. r .number) (expectedBy w (c .cycle) ss)) (h .0)
+          ∙ ap (λ (o : Option Refusal). Option·map (λ r. r .number) (inOrder false o (twoDrive (c .cycle) ss) (twoRead (c .cycle) ss))) (h .1)
+          ∙ ap (λ (x : Bool). Option·map (λ r. r .number) (inOrder false none x (twoRead (c .cycle) ss))) (h .2)
+          ∙ ap (λ (y : Bool). Option·map (λ r. r .number) (inOrder false none false y)) (h .3)),
+    )
+
+pub good-count : CountGood
+good-count b = (
   (λ e. (
     (let n : b .count ≢ 0 = eqb-false (b .count) 0 (or-l (eqb (b .count) 0) (ltb 16 (b .count)) e) in omega arith),
     ltb-false 16 (b .count) (or-r (eqb (b .count) 0) (ltb 16 (b .count)) e),
   )),
   (λ h. rw (ne-eqb (b .count) 0 (λ e. omega arith), le-ltb 16 (b .count) (h .1))),
 )
+
+eleven : (wrong : Bool) (o : Option Refusal) (x y : Bool) → ((r : Refusal) → o ≡ some r → r .number ≤ 4)
+    → Option·map (λ r. r .number) (inOrder wrong o x y) ≡ some 11 → wrong ≡ true
+eleven true o x y l e = refl
+eleven false (some r) x y l e =
+    let q : r .number ≡ 11 = cc in
+    let m : r .number ≤ 4 = l r refl in
+    absurd (omega arith)
+eleven false none true y l e = let q : _≡_ {A = ℕ} 12 11 = cc in absurd (omega arith)
+eleven false none false true l e = let q : _≡_ {A = ℕ} 13 11 = cc in absurd (omega arith)
+eleven false none false false l e = let z : _≡_ {A = ℕ} 0 1 = cc in absurd (omega arith)
+
+pub eleven-exactly : ElevenExactly
+eleven-exactly b c =
+    let ss : List Seat = seatsOf b (c .selects) in (
+      (λ e h. false≢true
+          (sym (good-count b .1 h)
+          ∙ eleven (wrongCount (b .count)) (ownOf (c .cycle) ss) (twoDrive (c .cycle) ss) (twoRead (c .cycle) ss)
+          (lowest-small (c .cycle) 0 ss) (sym (board-numbers-exactly b c) ∙ e))),
+      (λ h. board-numbers-exactly b c
+          ∙ ap (λ (w : Bool). Option·map (λ r. r .number) (expectedBy w (c .cycle) ss)) (wrong (wrongCount (b .count)) refl h)),
+    )
+  where
+    wrong : (t : Bool) → wrongCount (b .count) ≡ t → (((1 ≤ b .count) × (b .count ≤ 16)) → ⊥) → t ≡ true
+    wrong true w h = refl
+    wrong false w h = absurd (h (good-count b .0 w))

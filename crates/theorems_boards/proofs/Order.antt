@@ -4,11 +4,12 @@ use mathlib.Core.Path.{_≡_, refl, sym, _∙_, ap}
 use mathlib.Core.Bool.{Bool, true, false, not, cond, _&&_, _||_, true≢false}
 use mathlib.Core.List.{List, [], _∷_, map}
 use mathlib.Core.Option.{Option, none, some, Option·map}
-use Prim.Native.Nat.{ℕ, zero, suc, _/_, _%_}
+use Prim.Native.Nat.{ℕ, zero, suc, _/_, _%_, _≤_}
 use native.Mathlib.Omega.{arith}
 use lib.Bits.{bitOr, or-comm}
-use lib.Dec.{eqb}
+use lib.Dec.{eqb, ltb}
 use lib.ListN.{length}
+use borrow.Author.Tests.{le-ltb}
 use Rattle.rules.specs.Bus.{write}
 use Rattle.rules.specs.Kinds.{numberOf}
 use Rattle.rules.specs.PowerOn.{blank, powerOn}
@@ -26,19 +27,21 @@ use Rattle.theorems_runs.proofs.Examples.{unitOfThree}
 use Rattle.theorems_runs.proofs.Undamaged.{undamaged-from-power-on}
 use Rattle.theorems_runs.proofs.Bits.{with-either}
 use Rattle.board_rules.specs.Board.{Seat, seated, seatsOf, seenBy, unitOf, answerOf, afterwards, some-of, two-of, Refusal, wrongCount}
-use Rattle.board_rules.specs.Board.{ownFrom, onLines, isKind, clash, severalRead, verdictBy, verdict, silent, requests, driver, joinedByte}
+use Rattle.board_rules.specs.Board.{ownFrom, onLines, isKind, driverFrom, clash, severalRead, verdict, silent, requests, driver, joinedByte}
 use Rattle.board_rules.specs.Board.{nobodyDrives, kindOf, joined, answerBy, unitsBy, seatsAnswer, seatsAfter, boardAnswer, boardAfter}
 use Rattle.board_rules.specs.Board.{boardAnswerBy, boardAnswers, boardFinal}
 use Rattle.board_rules.specs.declared.Board.{Board}
+use Rattle.board_rules.specs.declared.BoardAnswer.{BoardAnswer}
 use Rattle.board_rules.specs.declared.BoardCycle.{BoardCycle}
+use Rattle.board_rules.specs.declared.Named.the-variants.{Nobody, Number}
 use Rattle.theorems_boards.specs.Numbers.{seatNumber, seatDrives, seatCommanded, lowestFrom, twoDrive, twoRead, inOrder}
-use Rattle.theorems_boards.specs.Order.{exchange, permuted, bits, Alike, OrderNeverMatters, broken, pairOf, unlistedCode}
+use Rattle.theorems_boards.specs.Order.{exchange, permuted, bits, Alike, isNobody, OrderNeverMatters, broken, pairOf, unlistedCode}
 use Rattle.theorems_boards.specs.Order.{OrderMattersDamaged, OrderNeedsUndamaged}
 use Rattle.theorems_boards.specs.Seats.{live}
 use Rattle.theorems_boards.proofs.Computed.{computed}
 use Rattle.theorems_boards.proofs.Lists.{seats-every}
 use Rattle.theorems_boards.proofs.Live.{after-count, live-right, live-wrong, live-length, live-undamaged}
-use Rattle.theorems_boards.proofs.Numbers.{verdict-is}
+use Rattle.theorems_boards.proofs.Numbers.{none-clash, verdict-is, lowest-small}
 
 -- Lists with two neighbours exchanged
 
@@ -145,6 +148,23 @@ joined-exchange i l e =
       byte-exchange i l,
     )
 
+-- Nobody is named where none drives
+
+nobody-driver : (j : ℕ) (l : List Answer) → isNobody (driverFrom j l) ≡ not (some-of onLines l)
+unfolding driverFrom some-of
+nobody-driver j [] = refl
+nobody-driver j (x ∷ l) = go (onLines x) (nobody-driver (suc j) l)
+  where
+    go : (t : Bool) → isNobody (driverFrom (suc j) l) ≡ not (some-of onLines l)
+        → isNobody (cond t (Number j) (driverFrom (suc j) l)) ≡ not (t || some-of onLines l)
+    go true later = refl
+    go false later = later
+
+nobody-exchange : (i : ℕ) (l : List Answer) → isNobody (joined (exchange i l) .named) ≡ isNobody (joined l .named)
+unfolding joined
+nobody-exchange i l =
+    nobody-driver 0 (exchange i l) ∙ ap (λ (t : Bool). not t) (some-exchange onLines i l) ∙ sym (nobody-driver 0 l)
+
 -- Numbers: an undamaged unit's own depends on the cycle and on whether it is selected
 
 abbrev bad : Cycle → Bool
@@ -215,10 +235,34 @@ said-exchange c i ss =
       two-exchange (seatCommanded c) i ss,
     )
 
-none-clash : (o : Option Refusal) (x y : Bool) → verdictBy o x y ≡ none → x ≡ false
-none-clash (some r) x y e = let z : _≡_ {A = ℕ} 0 1 = cc in absurd (omega arith)
-none-clash none true y e = let z : _≡_ {A = ℕ} 0 1 = cc in absurd (omega arith)
-none-clash none false y e = refl
+-- a refusal names nobody exactly where its number is none of a unit's own
+lowest-names : (c : Cycle) (i : ℕ) (ss : List Seat) (r : Refusal) → lowestFrom i (map (seatNumber c) ss) ≡ some r → isNobody (r .named) ≡ false
+unfolding lowestFrom
+lowest-names c i [] r e = let z : _≡_ {A = ℕ} 0 1 = cc in absurd (omega arith)
+lowest-names c i (s ∷ ss) r e = go (seatNumber c s) e (lowest-names c (suc i) ss r)
+  where
+    go : (o : Option ℕ) → lowestFrom i (o ∷ map (seatNumber c) ss) ≡ some r
+        → (lowestFrom (suc i) (map (seatNumber c) ss) ≡ some r → isNobody (r .named) ≡ false) → isNobody (r .named) ≡ false
+    go none e later = later e
+    go (some n) e later = let k : Number i ≡ r .named = cc in rw (← k)
+
+names-by : (o : Option Refusal) (x y : Bool) → ((r : Refusal) → o ≡ some r → isNobody (r .named) ≡ false)
+    → ((r : Refusal) → o ≡ some r → r .number ≤ 4) → (r : Refusal) → inOrder false o x y ≡ some r → isNobody (r .named) ≡ ltb 4 (r .number)
+names-by (some q) x y names few r e = names r e ∙ sym (le-ltb 4 (r .number) (few r e))
+names-by none true y names few r e =
+    let k : Nobody ≡ r .named = cc in
+    let n : 12 ≡ r .number = cc in
+    rw (← k, ← n)
+names-by none false true names few r e =
+    let k : Nobody ≡ r .named = cc in
+    let n : 13 ≡ r .number = cc in
+    rw (← k, ← n)
+names-by none false false names few r e = let z : _≡_ {A = ℕ} 0 1 = cc in absurd (omega arith)
+
+verdict-names : (c : Cycle) (ss : List Seat) (r : Refusal) → verdict c ss ≡ some r → isNobody (r .named) ≡ ltb 4 (r .number)
+verdict-names c ss r e =
+    names-by (lowestFrom 0 (map (seatNumber c) ss)) (twoDrive c ss) (twoRead c ss) (lowest-names c 0 ss) (lowest-small c 0 ss) r
+    (sym (verdict-is c ss) ∙ e)
 
 pub verdict-clash : (c : Cycle) (ss : List Seat) → verdict c ss ≡ none → clash (map (answerOf c) ss) ≡ false
 unfolding verdict
@@ -226,33 +270,49 @@ verdict-clash c ss e = none-clash (ownFrom 0 (map (answerOf c) ss)) (clash (map 
 
 -- One cycle
 
+-- two answers are the same but for the number of the unit that is named
+record AnswersAlike (x y : BoardAnswer) : Type 0 where
+  answer : x .answer ≡ y .answer
+  nobody : isNobody (x .named) ≡ isNobody (y .named)
+
 seats-exchange : (c : Cycle) (i : ℕ) (ss : List Seat) → Every (λ s. Undamaged (s .unit)) ss
-    → (seatsAnswer c (exchange i ss) .answer ≡ seatsAnswer c ss .answer) × (seatsAfter c (exchange i ss) ≡ exchange i (seatsAfter c ss))
+    → AnswersAlike (seatsAnswer c (exchange i ss)) (seatsAnswer c ss) × (seatsAfter c (exchange i ss) ≡ exchange i (seatsAfter c ss))
 unfolding seatsAnswer seatsAfter
 seats-exchange c i ss h =
-    go (verdict c ss) (verdict c (exchange i ss)) refl
+    go (verdict c ss) (verdict c (exchange i ss)) refl refl
     (verdict-said c (exchange i ss) (every-exchange _ i ss h) ∙ said-exchange c i ss ∙ sym (verdict-said c ss h))
   where
-    go : (v w : Option Refusal) → verdict c ss ≡ v → Option·map (λ r. r .number) w ≡ Option·map (λ r. r .number) v
-        → (answerBy w c (exchange i ss) .answer ≡ answerBy v c ss .answer) × (unitsBy w c (exchange i ss) ≡ exchange i (unitsBy v c ss))
-    go none none e q = (
-      rw (map-exchange (answerOf c) i ss) (joined-exchange i (map (answerOf c) ss) (verdict-clash c ss e)),
+    go : (v w : Option Refusal) → verdict c ss ≡ v → verdict c (exchange i ss) ≡ w
+        → Option·map (λ r. r .number) w ≡ Option·map (λ r. r .number) v
+        → AnswersAlike (answerBy w c (exchange i ss)) (answerBy v c ss) × (unitsBy w c (exchange i ss) ≡ exchange i (unitsBy v c ss))
+    go none none e f q = (
+      record {
+        answer = rw (map-exchange (answerOf c) i ss) (joined-exchange i (map (answerOf c) ss) (verdict-clash c ss e));
+        nobody = rw (map-exchange (answerOf c) i ss) (nobody-exchange i (map (answerOf c) ss));
+      },
       map-exchange (afterwards c) i ss,
     )
-    go none (some r) e q = let z : _≡_ {A = ℕ} 0 1 = cc in absurd (omega arith)
-    go (some r) none e q = let z : _≡_ {A = ℕ} 0 1 = cc in absurd (omega arith)
-    go (some r) (some r') e q =
-        let n : r' .number ≡ r .number = cc in
-        (rw (n, some-exchange requests i ss), map-exchange unitOf i ss)
+    go none (some r) e f q = let z : _≡_ {A = ℕ} 0 1 = cc in absurd (omega arith)
+    go (some r) none e f q = let z : _≡_ {A = ℕ} 0 1 = cc in absurd (omega arith)
+    go (some r) (some r') e f q =
+        let n : r' .number ≡ r .number = cc in (
+          record {
+            answer = rw (n, some-exchange requests i ss);
+            nobody = verdict-names c (exchange i ss) r' f ∙ ap (λ (m : ℕ). ltb 4 m) n ∙ sym (verdict-names c ss r e);
+          },
+          map-exchange unitOf i ss,
+        )
 
 permuted-seats : (c : Cycle) (p : List ℕ) (ss : List Seat) → Every (λ s. Undamaged (s .unit)) ss
-    → (seatsAnswer c (permuted p ss) .answer ≡ seatsAnswer c ss .answer) × (seatsAfter c (permuted p ss) ≡ permuted p (seatsAfter c ss))
+    → AnswersAlike (seatsAnswer c (permuted p ss)) (seatsAnswer c ss) × (seatsAfter c (permuted p ss) ≡ permuted p (seatsAfter c ss))
 unfolding permuted
-permuted-seats c [] ss h = (refl, refl)
+permuted-seats c [] ss h = (record { answer = refl; nobody = refl }, refl)
 permuted-seats c (i ∷ p) ss h =
     let now = seats-exchange c i ss h in
-    let later = permuted-seats c p (exchange i ss) (every-exchange _ i ss h) in
-    (later .0 ∙ now .0, later .1 ∙ ap (λ (l : List Unit). permuted p l) (now .1))
+    let later = permuted-seats c p (exchange i ss) (every-exchange _ i ss h) in (
+      record { answer = later .0 .answer ∙ now .0 .answer; nobody = later .0 .nobody ∙ now .0 .nobody },
+      later .1 ∙ ap (λ (l : List Unit). permuted p l) (now .1),
+    )
 
 -- Seats from units and select bits
 
@@ -313,7 +373,7 @@ module _ (a b : Board) (p : List ℕ) (c d : BoardCycle) (u : Every Undamaged (l
   seats-alike =
       ap (λ (l : List Unit). seated l (d .selects)) e ∙ seated-permuted p (live a) (c .selects) (d .selects) (h .selects)
 
-  both-step : (seatsAnswer (d .cycle) (seatsOf b (d .selects)) .answer ≡ seatsAnswer (c .cycle) (seatsOf a (c .selects)) .answer)
+  both-step : AnswersAlike (seatsAnswer (d .cycle) (seatsOf b (d .selects))) (seatsAnswer (c .cycle) (seatsOf a (c .selects)))
       × (seatsAfter (d .cycle) (seatsOf b (d .selects)) ≡ permuted p (seatsAfter (c .cycle) (seatsOf a (c .selects))))
   both-step =
       rw (← h .cycle, seats-alike) (permuted-seats (c .cycle) p (seatsOf a (c .selects)) (seats-every Undamaged (live a) (c .selects) u))
@@ -324,7 +384,15 @@ module _ (a b : Board) (p : List ℕ) (c d : BoardCycle) (u : Every Undamaged (l
     where
       go : (t : Bool) → boardAnswerBy t a c .answer ≡ boardAnswerBy t b d .answer
       go true = refl
-      go false = sym (both-step .0)
+      go false = sym (both-step .0 .answer)
+
+  nobody-alike : isNobody (boardAnswer a c .named) ≡ isNobody (boardAnswer b d .named)
+  unfolding boardAnswer
+  nobody-alike = go (wrongCount (a .count)) ∙ ap (λ (m : ℕ). isNobody (boardAnswerBy (wrongCount m) b d .named)) n
+    where
+      go : (t : Bool) → isNobody (boardAnswerBy t a c .named) ≡ isNobody (boardAnswerBy t b d .named)
+      go true = refl
+      go false = sym (both-step .0 .nobody)
 
   live-alike : live (boardAfter b d) ≡ permuted p (live (boardAfter a c))
   live-alike = go (wrongCount (a .count)) refl
@@ -335,7 +403,7 @@ module _ (a b : Board) (p : List ℕ) (c d : BoardCycle) (u : Every Undamaged (l
 
 pub order-never-matters : OrderNeverMatters
 unfolding boardAnswers boardFinal
-order-never-matters a b p [] [] u n e h = (refl, e)
+order-never-matters a b p [] [] u n e h = (refl, refl, e)
 order-never-matters a b p [] (d ∷ ds) u n e h = absurd h
 order-never-matters a b p (c ∷ cs) [] u n e h = absurd h
 order-never-matters a b p (c ∷ cs) (d ∷ ds) u n e h =
@@ -343,7 +411,7 @@ order-never-matters a b p (c ∷ cs) (d ∷ ds) u n e h =
     order-never-matters (boardAfter a c) (boardAfter b d) p cs ds (live-undamaged a c u)
     (after-count a c ∙ n ∙ sym (after-count b d)) (live-alike a b p c d u n e (h .0))
     (rw (live-length a c) (h .1)) in
-    (rw (answer-alike a b p c d u n e (h .0), later .0), later .1)
+    (rw (answer-alike a b p c d u n e (h .0), later .0), rw (nobody-alike a b p c d u n e (h .0), later .1), later .2)
 
 pub order-matters-damaged : OrderMattersDamaged
 unfolding computed
@@ -373,6 +441,8 @@ toOne selects =
 
 shown : (map (λ x. x .answer) (boardAnswers (pairOf powerOn passes) (toOne 2))
     ≡ map (λ x. x .answer) (boardAnswers (pairOf passes powerOn) (toOne 1)))
+    × (map (λ x. isNobody (x .named)) (boardAnswers (pairOf powerOn passes) (toOne 2))
+    ≡ map (λ x. isNobody (x .named)) (boardAnswers (pairOf passes powerOn) (toOne 1)))
     × (live (boardFinal (pairOf passes powerOn) (toOne 1)) ≡ exchange 0 (live (boardFinal (pairOf powerOn passes) (toOne 2))))
 unfolding computed permuted bits exchange
 shown =

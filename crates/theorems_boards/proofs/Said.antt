@@ -3,7 +3,7 @@
 use mathlib.Core.Path.{_≡_, refl, sym, _∙_, ap}
 use mathlib.Core.Bool.{Bool, true, false, cond, _&&_, _||_, true≢false}
 use mathlib.Core.List.{List, [], _∷_, map}
-use mathlib.Core.Option.{Option, none, some}
+use mathlib.Core.Option.{none}
 use Prim.Native.Nat.{ℕ, zero, suc, _+_, _^_, _<_, _≤_}
 use native.Mathlib.Nat.{not-suc-le-zero, le-of-suc-le-suc}
 use native.Mathlib.Omega.{arith}
@@ -15,7 +15,7 @@ use Rattle.rules.specs.declared.Kind.the-variants.{Ignored}
 use Rattle.theorems_runs.specs.Cycles.{memoryCycle}
 use Rattle.theorems_runs.specs.Sequences.{Every}
 use Rattle.theorems_runs.proofs.Bits.{has-or}
-use Rattle.board_rules.specs.Board.{seatsOf, seenBy, answerOf, some-of, two-of, Refusal, onLines, silent, verdictBy, verdict}
+use Rattle.board_rules.specs.Board.{seatsOf, seenBy, answerOf, some-of, two-of, onLines, silent, verdict}
 use Rattle.board_rules.specs.Board.{ownFrom, clash, severalRead, driver, driverFrom, joinedByte, joined, boardAnswer}
 use Rattle.board_rules.specs.declared.Board.{Board}
 use Rattle.board_rules.specs.declared.BoardAnswer.{BoardAnswer}
@@ -26,7 +26,7 @@ use Rattle.theorems_boards.specs.Said.{ready, NamesDriver, DriverNamed, 
 use Rattle.theorems_boards.proofs.Forms.{Accepted, accepted-form}
 use Rattle.theorems_boards.proofs.Lists.{every-imp, some-ext, some-and, some-map, some-at, some-none}
 use Rattle.theorems_boards.proofs.Lists.{seats-length, seats-some, seated-at, every-seated-at}
-use Rattle.theorems_boards.proofs.Numbers.{verdict-none}
+use Rattle.theorems_boards.proofs.Numbers.{none-clash, verdict-none}
 use Rattle.theorems_boards.proofs.Units.{unrefused}
 
 -- Answers one after another: j is the number of the first
@@ -94,11 +94,6 @@ none-on z (x ∷ xs) j e = go (onLines x) e (none-on z xs (suc j))
         → (cond t (Number j) (driverFrom (suc j) xs) ≡ Nobody) × (cond t x (driver z xs) ≡ z)
     go true e later = absurd (true≢false e)
     go false e later = later e
-
-none-clash : (o : Option Refusal) (x y : Bool) → verdictBy o x y ≡ none → x ≡ false
-none-clash none true y e = let z : _≡_ {A = ℕ} 0 1 = cc in absurd (omega arith)
-none-clash none false y e = refl
-none-clash (some r) x y e = let z : _≡_ {A = ℕ} 0 1 = cc in absurd (omega arith)
 
 -- The answers of the units of a board, each alone
 

@@ -1,7 +1,7 @@
 -- Settings that never collide: exactly those by which no two units may drive, and what keeps them.
 -- Assumes nothing.
 use mathlib.Core.Path.{_≡_, refl, sym, _∙_, ap}
-use mathlib.Core.Bool.{Bool, true, false, not, cond, _&&_, _||_, Bool·beq, true≢false, false≢true}
+use mathlib.Core.Bool.{Bool, true, false, not, cond, _&&_, _||_, Bool·beq, true≢false, false≢true, and-false}
 use mathlib.Core.List.{List, [], _∷_, map, map-map}
 use mathlib.Core.Option.{Option, none, some, Option·map}
 use Prim.Native.Nat.{ℕ, suc}
@@ -32,7 +32,7 @@ use Rattle.board_rules.specs.declared.BoardCycle.{BoardCycle}
 use Rattle.theorems_boards.specs.Numbers.{mayDrive, seatNumber, seatDrives, lowestFrom, ownOf}
 use Rattle.theorems_boards.specs.Seats.{live, refusalOf}
 use Rattle.theorems_boards.specs.Settings.{mrOf, settings, apart, pairwise, neverCollide, NeverTwelve, Sound, ApartNeverTwelve, SettingsExactly}
-use Rattle.theorems_boards.specs.Settings.{resetsTwo, SettingsKept, AlongBoard, NeverTwelveThroughout, SettingsNeed}
+use Rattle.theorems_boards.specs.Settings.{resetsTwo, SettingsKept, ResetsTwoCollide, AlongBoard, NeverTwelveThroughout, SettingsNeed}
 use Rattle.theorems_boards.specs.Settings.{BothExcepted, two, resetting, writingBoth, ResetCollides, ResetSettings, NeverTwelveFromPowerOn}
 use Rattle.theorems_boards.proofs.Computed.{computed}
 use Rattle.theorems_boards.proofs.Elements.{two-none, none-false, map-every}
@@ -40,6 +40,7 @@ use Rattle.theorems_boards.proofs.Lists.{two-map, seats-units, seats-ev
 use Rattle.theorems_boards.proofs.Forms.{Accepted, earliest-none}
 use Rattle.theorems_boards.proofs.Live.{live-right, live-wrong, answer-right}
 use Rattle.theorems_boards.proofs.Numbers.{twelve-exactly, verdict-none, seats-number}
+use Rattle.theorems_boards.proofs.Units.{unrefused}
 
 -- Pairs of a list
 
@@ -357,6 +358,46 @@ settings-kept b c may h = go (wrongCount (b .count)) refl
     go : (t : Bool) → wrongCount (b .count) ≡ t → neverCollide (settings (boardAfter b c)) ≡ true
     go true w = rw (live-wrong b c w) h
     go false w = rw (live-right b c w) (by (verdict (c .cycle) ss) refl w)
+
+-- a reset that selects two
+some-selected : (ss : List Seat) → some-of (λ s. s .select) ss ≡ true → all (apart 0x80) (map (λ s. cond (s .select) 0x80 0) ss) ≡ false
+unfolding some-of
+some-selected [] e = absurd (false≢true e)
+some-selected (s ∷ ss) e = go (s .select) e (some-selected ss)
+  where
+    rest : List ℕ
+    rest = map (λ s. cond (s .select) 0x80 0) ss
+
+    go : (t : Bool) → (t || some-of (λ s. s .select) ss) ≡ true → (some-of (λ s. s .select) ss ≡ true → all (apart 0x80) rest ≡ false)
+        → (apart 0x80 (cond t 0x80 0) && all (apart 0x80) rest) ≡ false
+    go true e later = refl
+    go false e later = later e
+
+two-selected : (ss : List Seat) → two-of (λ s. s .select) ss ≡ true → neverCollide (map (λ s. cond (s .select) 0x80 0) ss) ≡ false
+unfolding pairwise two-of
+two-selected [] e = absurd (false≢true e)
+two-selected (s ∷ ss) e = go (s .select) e (two-selected ss)
+  where
+    rest : List ℕ
+    rest = map (λ s. cond (s .select) 0x80 0) ss
+
+    go : (t : Bool) → cond t (some-of (λ s. s .select) ss) (two-of (λ s. s .select) ss) ≡ true
+        → (two-of (λ s. s .select) ss ≡ true → neverCollide rest ≡ false)
+        → (all (apart (cond t 0x80 0)) rest && neverCollide rest) ≡ false
+    go true e later = rw (some-selected ss e)
+    go false e later = rw (later e) (and-false (all (apart 0) rest))
+
+pub resets-two-collide : ResetsTwoCollide
+resets-two-collide b c e h =
+    let ss : List Seat = seatsOf b (c .selects) in
+    let u = unrefused b c e in
+    rw (
+      u .units,
+      map-map mrOf (afterwards (c .cycle)) ss,
+      map-every (λ s. mrOf (afterwards (c .cycle) s)) (λ s. cond (s .select) 0x80 0) ss
+          (every-imp _ _ (λ s. mr-reset (c .cycle) s (and-l (c .cycle .reset) _ h)) ss (verdict-none (c .cycle) ss (u .accepts))),
+    )
+    (two-selected ss (and-r (c .cycle .reset) _ h))
 
 pub never-twelve-throughout : NeverTwelveThroughout
 unfolding AlongBoard boardAnswers

@@ -38,10 +38,11 @@ use Rattle.board_rules.specs.declared.Board.{Board}
 use Rattle.board_rules.specs.declared.BoardAnswer.{BoardAnswer}
 use Rattle.board_rules.specs.declared.BoardCycle.{BoardCycle}
 use Rattle.theorems_boards.specs.Numbers.{mayDrive, seatNumber, seatDrives, seatCommanded, expectedBy}
-use Rattle.theorems_boards.specs.Seats.{live, selectOf, refusalOf}
-use Rattle.theorems_boards.specs.Settings.{mrOf, unrefused}
-use Rattle.theorems_boards.specs.BoardTighter.{BoardSame, BoardCovers, BoardNearer, EachBoardLine, abortedOn, onEither, onFirst, onTranslating, onNone}
-use Rattle.theorems_boards.specs.BoardTighter.{boardBefore, NoWriteTo, BoardTighterBy, Tightened, BoardDemand3, BoardStopInFirst, BoardNarrowerCovers}
+use Rattle.theorems_boards.specs.Seats.{live, selectOf, refusalOf, given}
+use Rattle.theorems_boards.specs.Settings.{mrOf}
+use Rattle.theorems_boards.specs.BoardTighter.{BoardSame, BoardCovers, BoardNearer, EachBoardLine, abortedOn}
+use Rattle.theorems_boards.specs.BoardTighter.{onEither, onFirst, onTranslating, onNone, boardBefore, NoWriteTo, BoardTighterBy}
+use Rattle.theorems_boards.specs.BoardTighter.{Tightened, BoardDemand3, BoardStopInFirst, BoardNarrowerCovers}
 use Rattle.theorems_boards.specs.BoardTighter.{BoardStopWhereTranslated, BoardUnstopped, OnceBy, SupToo, BoardOnce}
 use Rattle.theorems_boards.proofs.Elements.{every-true, none-false, none-of-both, map-both, both-map, both-imp, some-⇒, two-both}
 use Rattle.theorems_boards.proofs.Forms.{Accepted}
@@ -275,7 +276,7 @@ module _ (Related : Unit → Unit → Type 0) (Fine : Unit → Cycle → Type 0)
 
   -- One cycle of two boards
   module _ (a b : Board) (c : BoardCycle) (n : a .count ≡ b .count) (h : Both Related (live a) (live b)) (f : NoWriteTo (a .count) c)
-      (fine : unrefused (refusalOf a c) ≡ true → Every (λ s. Fine (s .unit) (seenBy (s .select) (c .cycle))) (seatsOf a (c .selects))) where
+      (fine : not (given (refusalOf a c)) ≡ true → Every (λ s. Fine (s .unit) (seenBy (s .select) (c .cycle))) (seatsOf a (c .selects))) where
     paired : Both (Pair Related (c .cycle)) (seatsOf a (c .selects)) (seatsOf b (c .selects))
     paired =
         seats-paired Related (c .cycle) (live a) (live b) (c .selects) h
@@ -303,7 +304,7 @@ module _ (Related : Unit → Unit → Type 0) (Fine : Unit → Cycle → Type 0)
 
   -- Runs
   module _ (stop : Board → Board → BoardCycle → Bool)
-      (stops : (a b : Board) (c : BoardCycle) → stop a b c ≡ false → unrefused (refusalOf a c) ≡ true
+      (stops : (a b : Board) (c : BoardCycle) → stop a b c ≡ false → not (given (refusalOf a c)) ≡ true
       → Every (λ s. Fine (s .unit) (seenBy (s .select) (c .cycle))) (seatsOf a (c .selects))) where
     run : (n : ℕ) (cs : List BoardCycle) (a b : Board) → a .count ≡ n → a .count ≡ b .count → Both Related (live a) (live b) → Every (NoWriteTo n) cs
         → Both Line (boardAnswers a (boardBefore stop a b cs)) (boardAnswers b (boardBefore stop a b cs))
@@ -424,7 +425,7 @@ module _ (stop : Board → Board → BoardCycle → Bool) (stops : (a b : Board)
 -- which a stop at every aborted fetch of the first board does
 fewer : (a b : Board) (c : BoardCycle) → abortedOn a c ≡ false → onTranslating a b c ≡ false
 fewer a b c e =
-    go (unrefused (refusalOf a c)) (λ s. abortedFetch (s .unit) (seenBy (s .select) (c .cycle)))
+    go (not (given (refusalOf a c))) (λ s. abortedFetch (s .unit) (seenBy (s .select) (c .cycle)))
     (λ s. translationConditions (mrOf (s .unit)) (c .cycle)) (seatsOf a (c .selects)) e
   where
     go : (t : Bool) (p q : Seat → Bool) (ss : List Seat) → (t && some-of p ss) ≡ false → (t && some-of (λ s. p s && q s) ss) ≡ false

@@ -6,7 +6,7 @@ use mathlib.Core.List.{List, [], _∷_, map}
 use mathlib.Core.Option.{Option, none, some, Option·map}
 use Prim.Native.Nat.{ℕ}
 use native.Mathlib.Omega.{arith}
-use lib.ListN.{length, getD, length-map, length-take, take-append-drop}
+use lib.ListN.{getD, take-append-drop}
 use lib.Seq.{length-front}
 use Rattle.rules.specs.Kinds.{numberIn}
 use Rattle.rules.specs.PowerOn.{powerOn}
@@ -19,18 +19,18 @@ use Rattle.rules.specs.declared.Unit.{Unit}
 use Rattle.theorems_runs.specs.Sequences.{Every}
 use Rattle.theorems_runs.specs.Undamaged.{Undamaged}
 use Rattle.theorems_runs.proofs.Undamaged.{undamaged-after, undamaged-from-power-on}
-use Rattle.board_rules.specs.Board.{Seat, seatsOf, seenBy, unitOf, answerOf, afterwards, some-of, Refusal, wrongCount, verdict, requests}
+use Rattle.board_rules.specs.Board.{seatsOf, seenBy, answerOf, afterwards, some-of, Refusal, wrongCount, verdict, requests}
 use Rattle.board_rules.specs.Board.{joined, answerBy, unitsBy, seatsAnswer, seatsAfter, boardAnswerBy, boardUnitsBy, boardAnswer, boardAfter}
 use Rattle.board_rules.specs.Board.{silent, boardFinal}
 use Rattle.board_rules.specs.declared.Board.{Board}
 use Rattle.board_rules.specs.declared.BoardCycle.{BoardCycle}
-use Rattle.theorems_boards.specs.Seats.{live, unitAt, cycleAt, refusalOf}
+use Rattle.theorems_boards.specs.Seats.{live, unitAt, cycleAt, refusalOf, given}
 use Rattle.theorems_boards.specs.Numbers.{asks, BoardAsItStood, BoardRefusalLeaves}
-use Rattle.theorems_boards.specs.Alone.{EachAlone, given, heard, EachAloneThroughout, HoldsOfEach}
+use Rattle.theorems_boards.specs.Alone.{EachAlone, heard, EachAloneThroughout, HoldsOfEach}
 use Rattle.theorems_boards.specs.Alone.{BoardStaysUndamaged, boardOn, BoardFromPowerOn, PastStay, PastTheCount}
-use Rattle.theorems_boards.proofs.Lists.{front-take, front-drop, every-map, every-imp, every-take}
-use Rattle.theorems_boards.proofs.Lists.{seats-length, seats-units, seats-some, seats-every, seated-at}
-use Rattle.theorems_boards.proofs.Live.{after-length, live-right, live-wrong, live-length}
+use Rattle.theorems_boards.proofs.Lists.{front-drop, every-map, every-imp, every-take}
+use Rattle.theorems_boards.proofs.Lists.{seats-units, seats-some, seats-every, seated-at}
+use Rattle.theorems_boards.proofs.Live.{after-length, live-right, live-length}
 use Rattle.theorems_boards.proofs.Numbers.{seats-number}
 
 -- A board that does not refuse: its count is good, the verdict is none, its answer is joined, and each unit is stepped

@@ -1,9 +1,9 @@
 -- Ticket 3, "Units that share nothing but the cycle": each unit of a board is the single unit, alone.
 -- Assumes nothing.
 use mathlib.Core.Path.{_≡_}
-use mathlib.Core.Bool.{Bool, true, false, cond, _||_}
+use mathlib.Core.Bool.{cond, _||_}
 use mathlib.Core.List.{List, [], _∷_, map}
-use mathlib.Core.Option.{Option, none, some}
+use mathlib.Core.Option.{none}
 use Prim.Native.Nat.{ℕ, _<_}
 use lib.ListN.{length, drop, replicate}
 use Rattle.rules.specs.Kinds.{numberIn}
@@ -21,7 +21,7 @@ use Rattle.board_rules.specs.declared.Board.{Board}
 use Rattle.board_rules.specs.declared.BoardAnswer.{BoardAnswer}
 use Rattle.board_rules.specs.declared.BoardCycle.{BoardCycle}
 use Rattle.board_rules.specs.declared.Named.the-variants.{Nobody, Number}
-use Rattle.theorems_boards.specs.Seats.{live, unitAt, cycleAt, aloneAt, refusalOf}
+use Rattle.theorems_boards.specs.Seats.{live, unitAt, cycleAt, aloneAt, refusalOf, given}
 
 -- Each unit is the single unit
 
@@ -29,11 +29,6 @@ use Rattle.theorems_boards.specs.Seats.{live, unitAt, cycleAt, aloneAt, 
 abbrev pub EachAlone : Type 0
 EachAlone =
     (b : Board) (c : BoardCycle) (i : ℕ) → refusalOf b c ≡ none → i < length (live b) → unitAt i (boardAfter b c) ≡ aloneAt i b c .unit
-
--- a number was given: the cycle was refused
-abbrev pub given : Option ℕ → Bool
-given none = false
-given (some n) = true
 
 -- the cycles that unit i is stepped by: those that the board does not refuse, each with the unit's own select
 unfoldable pub heard : (i : ℕ) → Board → List BoardCycle → List Cycle

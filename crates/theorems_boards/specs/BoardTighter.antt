@@ -1,7 +1,7 @@
 -- Demand 3 for boards: two boards whose units are pairs tightened as stated, over the same cycles; with ticket 5's line.
 -- Assumes nothing.
 use mathlib.Core.Path.{_≡_}
-use mathlib.Core.Bool.{Bool, true, false, cond, _&&_, _||_}
+use mathlib.Core.Bool.{Bool, true, false, not, cond, _&&_, _||_}
 use mathlib.Core.List.{List, [], _∷_}
 use Prim.Native.Nat.{ℕ, _≤_, _<_}
 use lib.ListN.{replicate}
@@ -21,8 +21,8 @@ use Rattle.board_rules.specs.declared.Board.{Board}
 use Rattle.board_rules.specs.declared.BoardAnswer.{BoardAnswer}
 use Rattle.board_rules.specs.declared.BoardCycle.{BoardCycle}
 use Rattle.board_rules.specs.declared.Named.the-variants.{Number}
-use Rattle.theorems_boards.specs.Seats.{live, unitAt, cycleAt, refusalOf}
-use Rattle.theorems_boards.specs.Settings.{mrOf, unrefused}
+use Rattle.theorems_boards.specs.Seats.{live, unitAt, cycleAt, refusalOf, given}
+use Rattle.theorems_boards.specs.Settings.{mrOf}
 
 -- The lines
 
@@ -51,7 +51,7 @@ EachBoardLine Claim = Claim BoardCovers × Claim BoardNearer
 -- a cycle that the board does not refuse, and that is an aborted fetch in one of its units or more
 abbrev pub abortedOn : Board → BoardCycle → Bool
 abortedOn b c =
-    unrefused (refusalOf b c) && some-of (λ s. abortedFetch (s .unit) (seenBy (s .select) (c .cycle))) (seatsOf b (c .selects))
+    not (given (refusalOf b c)) && some-of (λ s. abortedFetch (s .unit) (seenBy (s .select) (c .cycle))) (seatsOf b (c .selects))
 
 -- at one of either board; of the first; nowhere
 abbrev pub onEither : Board → Board → BoardCycle → Bool
@@ -114,7 +114,7 @@ BoardNarrowerCovers = EachBoardLine λ Line. BoardTighterBy Line Narrower NoWrit
 -- at an aborted fetch of the first board that meets the translation conditions in the unit whose it is
 abbrev pub onTranslating : Board → Board → BoardCycle → Bool
 onTranslating a b c =
-    unrefused (refusalOf a c)
+    not (given (refusalOf a c))
     && some-of (λ s. abortedFetch (s .unit) (seenBy (s .select) (c .cycle)) && translationConditions (mrOf (s .unit)) (c .cycle))
     (seatsOf a (c .selects))
 
@@ -174,7 +174,7 @@ BoardStopNeeded = BoardTighterBy BoardCovers Tightened NoWriteTo onNone → ⊥
 
 -- at an aborted fetch in one unit of the first board
 abbrev pub onUnit : (i : ℕ) → Board → Board → BoardCycle → Bool
-onUnit i a b c = unrefused (refusalOf a c) && abortedFetch (unitAt i a) (cycleAt i c)
+onUnit i a b c = not (given (refusalOf a c)) && abortedFetch (unitAt i a) (cycleAt i c)
 
 -- CLAIM: and so it is where an aborted fetch in one unit alone stops: "in any unit".
 abbrev pub AnyUnitStops : Type 0

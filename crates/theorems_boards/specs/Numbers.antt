@@ -102,9 +102,13 @@ BoardNumbersExactly = (b : Board) (c : BoardCycle) → refusalOf b c ≡ Option�
 abbrev pub NamedExactly : Type 0
 NamedExactly = (b : Board) (c : BoardCycle) (r : Refusal) → expected b c ≡ some r → boardAnswer b c .named ≡ r .named
 
+-- CLAIM: a count is good exactly if it is 1 to 16.
+abbrev pub CountGood : Type 0
+CountGood = (b : Board) → (wrongCount (b .count) ≡ false) ↔ ((1 ≤ b .count) × (b .count ≤ 16))
+
 -- CLAIM: 11 exactly: the count is not 1 to 16.
 abbrev pub ElevenExactly : Type 0
-ElevenExactly = (b : Board) → (wrongCount (b .count) ≡ false) ↔ ((1 ≤ b .count) × (b .count ≤ 16))
+ElevenExactly = (b : Board) (c : BoardCycle) → (refusalOf b c ≡ some 11) ↔ (((1 ≤ b .count) × (b .count ≤ 16)) → ⊥)
 
 -- CLAIM: 12 exactly: a good count, no unit's own refusal, a memory cycle, and two units that may drive.
 abbrev pub TwelveExactly : Type 0
@@ -113,3 +117,11 @@ TwelveExactly =
     → (refusalOf b c ≡ some 12)
     ↔ ((wrongCount (b .count) ≡ false) × (ownOf (c .cycle) (seatsOf b (c .selects)) ≡ none)
     × (twoDrive (c .cycle) (seatsOf b (c .selects)) ≡ true))
+
+-- CLAIM: 13 exactly: a good count, no unit's own refusal, not 12, and a command read that selects two units.
+abbrev pub ThirteenExactly : Type 0
+ThirteenExactly =
+    (b : Board) (c : BoardCycle)
+    → (refusalOf b c ≡ some 13)
+    ↔ ((wrongCount (b .count) ≡ false) × (ownOf (c .cycle) (seatsOf b (c .selects)) ≡ none)
+    × (twoDrive (c .cycle) (seatsOf b (c .selects)) ≡ false) × (twoRead (c .cycle) (seatsOf b (c .selects)) ≡ true))

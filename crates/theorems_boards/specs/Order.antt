@@ -15,6 +15,8 @@ use Rattle.theorems_runs.specs.Undamaged.{Undamaged}
 use Rattle.board_rules.specs.Board.{boardAnswers, boardFinal}
 use Rattle.board_rules.specs.declared.Board.{Board}
 use Rattle.board_rules.specs.declared.BoardCycle.{BoardCycle}
+use Rattle.board_rules.specs.declared.Named.{Named}
+use Rattle.board_rules.specs.declared.Named.the-variants.{Nobody, Number}
 use Rattle.theorems_boards.specs.Seats.{live, refusalOf}
 
 -- the elements at i and i + 1 exchanged
@@ -39,8 +41,13 @@ pub record Alike (n : ℕ) (p : List ℕ) (c d : BoardCycle) : Type 0 where
   pub cycle : c .cycle ≡ d .cycle
   pub selects : bits n (d .selects) ≡ permuted p (bits n (c .selects))
 
--- two boards with units and select bits permuted alike give the same answers but for the unit that is named, and stay permuted alike, whatever
--- cycles come; with what is said of the units left open. Units past the count, and whether the count is good, are not looked at.
+abbrev pub isNobody : Named → Bool
+isNobody Nobody = true
+isNobody (Number i) = false
+
+-- two boards with units and select bits permuted alike give the same answers but for the number of the unit that is named, name nobody at the same
+-- cycles, and stay permuted alike, whatever cycles come; with what is said of the units left open. Units past the count, and whether the count
+-- is good, are not looked at.
 abbrev pub OrderBy : (Units : Unit → Type 0) → Type 0
 OrderBy Units =
     (a b : Board) (p : List ℕ) (cs ds : List BoardCycle)
@@ -49,6 +56,7 @@ OrderBy Units =
     → live b ≡ permuted p (live a)
     → Both (Alike (length (live a)) p) cs ds
     → (map (λ x. x .answer) (boardAnswers a cs) ≡ map (λ x. x .answer) (boardAnswers b ds))
+    × (map (λ x. isNobody (x .named)) (boardAnswers a cs) ≡ map (λ x. isNobody (x .named)) (boardAnswers b ds))
     × (live (boardFinal b ds) ≡ permuted p (live (boardFinal a cs)))
 
 -- CLAIM: of undamaged units.

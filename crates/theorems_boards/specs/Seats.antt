@@ -1,8 +1,8 @@
 -- Words about the units of a board that the claims are written in.
 -- Assumes nothing.
-use mathlib.Core.Bool.{Bool}
+use mathlib.Core.Bool.{Bool, true, false}
 use mathlib.Core.List.{List}
-use mathlib.Core.Option.{Option}
+use mathlib.Core.Option.{Option, none, some}
 use Prim.Native.Nat.{ℕ, _/_, _%_, _^_}
 use lib.Dec.{eqb}
 use lib.ListN.{getD, take}
@@ -38,3 +38,8 @@ aloneAt i b c = stepped (unitAt i b) (cycleAt i c)
 -- the number that the board's answer gives, if it is a refusal
 abbrev pub refusalOf : Board → BoardCycle → Option ℕ
 refusalOf b c = numberIn (boardAnswer b c .answer .kind)
+
+-- a number was given: the cycle was refused
+abbrev pub given : Option ℕ → Bool
+given none = false
+given (some n) = true

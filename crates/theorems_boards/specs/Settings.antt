@@ -4,7 +4,7 @@ use mathlib.Core.Path.{_≡_}
 use mathlib.Core.Logic.{_↔_}
 use mathlib.Core.Bool.{Bool, true, false, not, _&&_, _||_, Bool·beq}
 use mathlib.Core.List.{List, [], _∷_, map}
-use mathlib.Core.Option.{Option, none, some}
+use mathlib.Core.Option.{none, some}
 use Prim.Native.Nat.{ℕ}
 use lib.ListN.{replicate}
 use Rattle.rules.specs.Flags.{has}
@@ -20,7 +20,7 @@ use Rattle.board_rules.specs.declared.Board.{Board}
 use Rattle.board_rules.specs.declared.BoardAnswer.{BoardAnswer}
 use Rattle.board_rules.specs.declared.BoardCycle.{BoardCycle}
 use Rattle.rules.specs.Kinds.{numberIn}
-use Rattle.theorems_boards.specs.Seats.{live, refusalOf}
+use Rattle.theorems_boards.specs.Seats.{live, refusalOf, given}
 
 -- Settings
 
@@ -82,13 +82,9 @@ SettingsNeed = (ExactlyBy (λ b. true ≡ true) AllSound → ⊥) × (ExactlyBy 
 
 -- What keeps them
 
-abbrev pub unrefused : Option ℕ → Bool
-unrefused none = true
-unrefused (some n) = false
-
 -- a selected write of %00 to any unit, unrefused
 abbrev pub setsMr : Board → BoardCycle → Bool
-setsMr b c = unrefused (refusalOf b c) && some-of (λ s. writes 0x00 (seenBy (s .select) (c .cycle))) (seatsOf b (c .selects))
+setsMr b c = not (given (refusalOf b c)) && some-of (λ s. writes 0x00 (seenBy (s .select) (c .cycle))) (seatsOf b (c .selects))
 
 -- a reset that selects two units or more of those that the count takes in
 abbrev pub resetsTwo : Board → BoardCycle → Bool
@@ -110,6 +106,11 @@ SettingsKept = KeptBy SetsNone
 -- CLAIM: neither of the two keeps them always.
 abbrev pub BothExcepted : Type 0
 BothExcepted = (KeptBy (λ b c. resetsTwo b c ≡ false) → ⊥) × (KeptBy (λ b c. setsMr b c ≡ false) → ⊥)
+
+-- CLAIM: an unrefused reset that selects two units or more never does: the settings that it leaves collide, whatever they were.
+abbrev pub ResetsTwoCollide : Type 0
+ResetsTwoCollide =
+    (b : Board) (c : BoardCycle) → refusalOf b c ≡ none → resetsTwo b c ≡ true → neverCollide (settings (boardAfter b c)) ≡ false
 
 -- each cycle of a run is as said of it and of the board that it meets
 unfoldable pub AlongBoard : (May : Board → BoardCycle → Type 0) → Board → List BoardCycle → Type 0

@@ -4,7 +4,7 @@ use mathlib.Core.Path.{_≡_, refl, sym, ap, subst, _∙_}
 use mathlib.Core.Bool.{Bool, true, false, not, _&&_, and-false}
 use mathlib.Core.List.{List, [], _∷_, _++_, map, append-nil, append-assoc}
 use mathlib.Core.Option.{Option, none, some, Option·map}
-use Prim.Native.Nat.{ℕ, zero, suc, _+_, _*_, _-_, _≤_, _<_, _/_, _%_}
+use Prim.Native.Nat.{ℕ, zero, suc, _+_, _*_, _≤_, _<_, _/_, _%_}
 use native.Mathlib.Nat.{le-of-suc-le-suc, not-suc-le-zero}
 use native.Mathlib.Omega.{arith}
 use lib.Dec.{eqb, ltb}
@@ -39,6 +39,7 @@ use Rattle.theorems_boards.proofs.Lists.{seats-units, select-first, select-late
 use Rattle.theorems_boards.proofs.Live.{answer-right}
 use Rattle.theorems_boards.proofs.Numbers.{verdict-none, seats-number}
 use Rattle.theorems_boards.proofs.One.{one-is-the-unit}
+use Rattle.theorems_boards.proofs.Units.{unrefused}
 use Rattle.board_bytes.specs.Boarded.{partsIn, partAt, heldIn, unitsIn, seatsIn, boardIn, steppedIn, bytesBy, boardBytes}
 use Rattle.board_bytes.specs.Boarded.{noUnits, callNumber, callAnswer, callUnits}
 use Rattle.board_bytes.proofs.Held.{units-length, units-take, held-plain, held-answers, all-plain}
@@ -124,21 +125,31 @@ unit-stands-at l zero i d h = absurd (not-suc-le-zero h)
 unit-stands-at l (suc n) zero d h = refl
 unit-stands-at l (suc n) (suc i) d h = unit-stands-at (drop unitSize l) n i d (le-of-suc-le-suc h) ∙ ap heldIn (next-part l i)
 
-pub each-in-place : EachInPlace
+part-stepped : (c : Cycle) (count selects i : ℕ) (l : List ℕ) → i < count → unitSize * count ≤ length l
+    → partAt (steppedIn c count selects l) i ≡ inPlace (partAt l i) (seenBy (selectOf i selects) c)
 unfolding steppedIn
-each-in-place c zero k i l h room = absurd (not-suc-le-zero h)
-each-in-place c (suc n) k zero l h room =
+part-stepped c zero k i l h room = absurd (not-suc-le-zero h)
+part-stepped c (suc n) k zero l h room =
     let y : List ℕ = steppedIn c n (k / 2) (drop unitSize l) in
     take-at (first c n k l room) y unitSize (stepped-long c n k l room)
     ∙ ap (λ (b : Bool). inPlace (take unitSize l) (seenBy b c)) (sym (select-first k))
-each-in-place c (suc n) k (suc i) l h room =
+part-stepped c (suc n) k (suc i) l h room =
     let x : List ℕ = first c n k l room in
     let y : List ℕ = steppedIn c n (k / 2) (drop unitSize l) in
     sym (next-part (x ++ y) i)
     ∙ ap (λ (m : List ℕ). partAt m i) (drop-at x y unitSize (stepped-long c n k l room))
-    ∙ each-in-place c n (k / 2) i (drop unitSize l) (le-of-suc-le-suc h) (rest-room c n k l room)
+    ∙ part-stepped c n (k / 2) i (drop unitSize l) (le-of-suc-le-suc h) (rest-room c n k l room)
     ∙ ap (λ (p : List ℕ). inPlace p (seenBy (selectOf i (k / 2)) c)) (next-part l i)
     ∙ ap (λ (b : Bool). inPlace (partAt l (suc i)) (seenBy b c)) (sym (select-later i k))
+
+pub each-in-place : EachInPlace
+each-in-place c count i l e h room =
+    let u = unrefused (boardIn l count) c e in
+    let accepts : verdict (c .cycle) (seatsIn l count (c .selects)) ≡ none =
+    ap (λ (us : List Unit). verdict (c .cycle) (seated us (c .selects))) (sym (units-take l count)) ∙ u .accepts in
+    ap (λ (t : Bool). partAt (bytesBy t (verdict (c .cycle) (seatsIn l count (c .selects))) l count c) i) (u .count)
+    ∙ ap (λ (v : Option Refusal). partAt (bytesBy false v l count c) i) accepts
+    ∙ part-stepped (c .cycle) count (c .selects) i l h room
 
 -- One cycle
 
@@ -159,7 +170,8 @@ held-after c count l good room =
     }
     go none e = record {
       units = stepped-units (c .cycle) count (c .selects) l room
-          ∙ ap (λ (zs : List Seat). map (afterwards (c .cycle)) zs) (sym (all-plain (c .cycle) (partsIn l count) (c .selects) (verdict-none (c .cycle) ss e)))
+          ∙ ap (λ (zs : List Seat). map (afterwards (c .cycle)) zs)
+          (sym (all-plain (c .cycle) (partsIn l count) (c .selects) (verdict-none (c .cycle) ss e)))
           ∙ sym (ap (λ (v : Option Refusal). unitsBy v (c .cycle) ss) e);
       behind = stepped-behind (c .cycle) count (c .selects) l room;
       size = stepped-size (c .cycle) count (c .selects) l room;
@@ -304,7 +316,8 @@ board-calls-are-the-run (c ∷ cs) l count roomy =
     let roomy′ : Roomy m count = ap (λ (n : ℕ). not (wrongCount count) && ltb n (unitSize * count)) (one .size) ∙ roomy in
     let later : TheRun (boardIn m count) cs m count = board-calls-are-the-run cs m count roomy′ in
     record {
-      answers = ap (λ (xs : List BoardAnswer). boardAnswer (boardIn l count) c ∷ xs) (later .answers ∙ ap (λ (b : Board). boardAnswers b cs) (one .board));
+      answers = ap (λ (xs : List BoardAnswer). boardAnswer (boardIn l count) c ∷ xs)
+          (later .answers ∙ ap (λ (b : Board). boardAnswers b cs) (one .board));
       board = later .board ∙ ap (λ (b : Board). boardFinal b cs) (one .board);
       behind = later .behind ∙ one .behind;
       size = later .size ∙ one .size;

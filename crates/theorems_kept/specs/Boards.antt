@@ -3,26 +3,25 @@
 use mathlib.Core.Path.{_≡_}
 use mathlib.Core.Bool.{false, not, _&&_}
 use mathlib.Core.List.{List, [], _∷_, _++_}
-use mathlib.Core.Option.{some}
+use mathlib.Core.Option.{none, some}
 use Prim.Native.Nat.{ℕ, _*_, _≤_, _<_}
 use lib.ListN.{length, getD, drop, replicate}
 use lib.Seq.{sets}
 use Rattle.rules.specs.Kinds.{numberOf}
 use Rattle.rules.specs.PowerOn.{powerOn}
-use Rattle.rules.specs.declared.Cycle.{Cycle}
 use Rattle.rules.specs.declared.Unit.{Unit}
 use Rattle.theorems_runs.specs.Sequences.{Every}
 use Rattle.unit_bytes.specs.Cycled.{answerOf}
 use Rattle.unit_bytes.specs.InPlace.{inPlace}
 use Rattle.unit_bytes.specs.Snapshot.{segments, unitSize, unitBytes}
-use Rattle.board_rules.specs.Board.{seenBy, wrongCount, seatsAfter, boardAnswer, boardAnswers, boardFinal}
+use Rattle.board_rules.specs.Board.{wrongCount, seatsAfter, boardAnswer, boardAnswers, boardFinal}
 use Rattle.board_rules.specs.declared.Board.{Board}
 use Rattle.board_rules.specs.declared.BoardAnswer.{BoardAnswer}
 use Rattle.board_rules.specs.declared.BoardCycle.{BoardCycle}
 use Rattle.theorems_boards.specs.Alone.{boardOn, asBoards}
-use Rattle.theorems_boards.specs.Seats.{selectOf, cycleAt, refusalOf}
+use Rattle.theorems_boards.specs.Seats.{cycleAt, refusalOf}
 use Rattle.board_packed.specs.BoardPacked.{boardPacked}
-use Rattle.board_bytes.specs.Boarded.{partAt, heldIn, unitsIn, seatsIn, boardIn, steppedIn, boardBytes, noUnits, noRoom, Boarded}
+use Rattle.board_bytes.specs.Boarded.{partAt, heldIn, unitsIn, seatsIn, boardIn, boardBytes, noUnits, noRoom, Boarded}
 
 -- Where each unit stands
 
@@ -32,8 +31,8 @@ UnitStandsAt = (bytes : List ℕ) (count i : ℕ) (d : Unit) → i < count → g
 
 -- CLAIM: a cycle that is not refused steps the bytes of each unit within the count in place, with the unit's own select.
 abbrev pub EachInPlace : Type 0
-EachInPlace = (c : Cycle) (count selects i : ℕ) (bytes : List ℕ) → i < count → unitSize * count ≤ length bytes
-    → partAt (steppedIn c count selects bytes) i ≡ inPlace (partAt bytes i) (seenBy (selectOf i selects) c)
+EachInPlace = (c : BoardCycle) (count i : ℕ) (bytes : List ℕ) → refusalOf (boardIn bytes count) c ≡ none → i < count
+    → unitSize * count ≤ length bytes → partAt (boardBytes bytes count c) i ≡ inPlace (partAt bytes i) (cycleAt i c)
 
 -- One cycle
 

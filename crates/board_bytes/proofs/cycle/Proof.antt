@@ -5,7 +5,7 @@ use lib.ListN.{length}
 use borrow.Author.Needs.{needs}
 use borrow.Author.Tests.{ltb-false}
 use Rattle.unit_bytes.specs.Snapshot.{unitSize}
-use Rattle.theorems_boards.proofs.Numbers.{eleven-exactly}
+use Rattle.theorems_boards.proofs.Numbers.{good-count}
 use Rattle.board_bytes.proofs.Ends.{short-end, wrong-end, narrow-end, cycle-end}
 use Rattle.board_bytes.proofs.cycle.Statement.{statement}
 use Rattle.board_bytes.proofs.cycle.Tie as tie
@@ -27,7 +27,7 @@ returns-2 c =
 mul-narrow : tie.Need-mul-narrow
 mul-narrow c =
     let start = c .before .before .before .before .args in
-    let few : start .count ≤ 16 = eleven-exactly (record { units = []; count = start .count }) .0 (c .if2 .left) .1 in
+    let few : start .count ≤ 16 = good-count (record { units = []; count = start .count }) .0 (c .if2 .left) .1 in
     search needs
 
 returns-3 : tie.Need-returns-3
@@ -40,7 +40,7 @@ cycled-requires : tie.Need-cycled-requires
 cycled-requires c κs =
     let tested = c .before in
     let start = tested .before .before .before .before .before .args in
-    let good = eleven-exactly (record { units = []; count = start .count }) .0 (tested .before .if2 .left) in
+    let good = good-count (record { units = []; count = start .count }) .0 (tested .before .if2 .left) in
     (good .0, good .1, ltb-false (length (start .units .now)) (unitSize * start .count) (tested .if3 .left))
 
 returns-4 : tie.Need-returns-4

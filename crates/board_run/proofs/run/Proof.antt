@@ -6,7 +6,7 @@ use Prim.Native.Nat.{ℕ, _/_}
 use native.Mathlib.Omega.{arith}
 use denote.Ref.{now}
 use lib.ListN.{length}
-use Rattle.theorems_boards.proofs.Numbers.{eleven-exactly}
+use Rattle.theorems_boards.proofs.Numbers.{good-count}
 use Rattle.board_packed.specs.BoardPacked.{boardWidth}
 use Rattle.board_run.specs.BoardRun.{recordSize, most, lesser, cyclesFor, boardOn}
 use Rattle.board_run.proofs.Ends.{lesser-first, lesser-second, cycles-fit}
@@ -42,7 +42,7 @@ run-to-requires : tie.Need-run-to-requires
 run-to-requires c κs =
     let met = c .before .before in
     let h = cycles-fit (length (recordsAt met)) (length (bufferAt met)) (met .if2 .cycles) (cycles-are met) in
-    let good = eleven-exactly (boardOn (met .before .before .before .before .args .count)) .0 (c .before .if3 .left) in
+    let good = good-count (boardOn (met .before .before .before .before .args .count)) .0 (c .before .if3 .left) in
     (good .0, good .1, h .0, h .1, h .2)
 
 returns : tie.Need-returns

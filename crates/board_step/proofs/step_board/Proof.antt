@@ -1,7 +1,7 @@
 -- `board_step::step_board` meets its contract, by its three ends. Assumes nothing.
 use mathlib.Core.Path.{sym, ap, _∙_}
 use borrow.Author.Needs.{needs}
-use Rattle.theorems_boards.proofs.Numbers.{eleven-exactly}
+use Rattle.theorems_boards.proofs.Numbers.{good-count}
 use Rattle.board_step.proofs.Ends.{wrong-end, refused-end, stepped-end}
 use Rattle.board_step.proofs.step_board.Statement.{statement}
 use Rattle.board_step.proofs.step_board.Tie as tie
@@ -15,7 +15,7 @@ judge-all-requires : tie.Need-judge-all-requires
 judge-all-requires c κs =
     let tested = c .before .before .before in
     let start = tested .before .before .before .args in
-    eleven-exactly (start .b) .0 (tested .if1 .left) .1
+    good-count (start .b) .0 (tested .if1 .left) .1
 
 returns-2 : tie.Need-returns-2
 returns-2 c =
@@ -31,7 +31,7 @@ step-all-requires : tie.Need-step-all-requires
 step-all-requires c κs =
     let tested = c .before .before .before .before .before .before in
     let start = tested .before .before .before .args in
-    eleven-exactly (start .b) .0 (tested .if1 .left) .1
+    good-count (start .b) .0 (tested .if1 .left) .1
 
 returns-3 : tie.Need-returns-3
 returns-3 c =
@@ -43,7 +43,7 @@ returns-3 c =
     ap (λ a. record { board = record { units = stepped .step-all .result .units; count = start .b .count }; answer = a }) (c .told .ensures)
     ∙ stepped-end (start .b) (start .c) j (judged .judge-all .ensures) (tested .if1 .left) (stepped .step-all .result .units)
     (stepped .step-all .result .joint) (sym (stepped .before .before .refuses .ensures) ∙ stepped .before .if2 .left)
-    (eleven-exactly (start .b) .0 (tested .if1 .left) .0) (stepped .step-all .ensures .2) (stepped .step-all .ensures .0) (stepped .step-all .ensures .1)
+    (good-count (start .b) .0 (tested .if1 .left) .0) (stepped .step-all .ensures .2) (stepped .step-all .ensures .0) (stepped .step-all .ensures .1)
 
 pub step-board-spec : {M : Type 1} → statement M
 step-board-spec =
