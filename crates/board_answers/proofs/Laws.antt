@@ -5,45 +5,35 @@ use mathlib.Core.Bool.{Bool, true, false, not, cond, _&&_, _||_, or-false, or-as
 use mathlib.Core.List.{List, [], _∷_, map}
 use Prim.Native.Nat.{ℕ, suc}
 use lib.Bits.{or-zero-l, or-zero-r}
-use lib.Dec.{eqb}
-use Rattle.rules.specs.Kinds.{letterOf}
 use Rattle.rules.specs.declared.Answer.{Answer}
 use Rattle.rules.specs.declared.Cycle.{Cycle}
 use Rattle.rules.specs.declared.Kind.{Kind}
-use Rattle.rules.specs.declared.Kind.the-variants.{Reset, Acknowledge, Command, Aborted, Translated, Passed, Ignored, Refused}
+use Rattle.rules.specs.declared.Kind.the-variants.{Reset, Acknowledge, Command, Aborted, Ignored}
 use Rattle.theorems_runs.proofs.Bits as bits
+use Rattle.theorems_runs.specs.Answers.{isAborted}
 use Rattle.theorems_runs.specs.Cycles.{acknowledge}
 use Rattle.theorems_runs.specs.Sequences.{Every}
 use Rattle.board_rules.specs.Board.{Seat, seenBy, answerOf, isKind, some-of, silent, driver, driverFrom, joinedByte, kindBy, kindOf, joined}
 use Rattle.theorems_boards.specs.Numbers.{seatCommanded}
+use Rattle.theorems_boards.proofs.Exactly.{letter-aborted}
 use Rattle.theorems_boards.proofs.Forms.{Accepted, accepted-form}
 use Rattle.theorems_boards.proofs.Lists.{every-imp, some-ext, some-map}
-use Rattle.board_answers.specs.Joint.{aborts, nothing, takes, joining, quietly, nobodyIn, told, Whole, ahead}
+use Rattle.board_answers.specs.Joint.{nothing, takes, joining, quietly, nobodyIn, told, Whole, ahead}
 use Rattle.board_answers.specs.declared.Joint.{Joint}
-
-aborts-is : (k : Kind) → aborts k ≡ eqb (letterOf k) (letterOf Aborted)
-aborts-is Reset = refl
-aborts-is Acknowledge = refl
-aborts-is Command = refl
-aborts-is Aborted = refl
-aborts-is Translated = refl
-aborts-is Passed = refl
-aborts-is Ignored = refl
-aborts-is (Refused n) = refl
 
 -- one answer more is joined as the next of the answers
 pub joined-turn : (t : Joint) (i : ℕ) (x : Answer) (xs : List Answer) → ahead (joining t i x) (suc i) xs ≡ ahead t i (x ∷ xs)
 unfolding joining ahead some-of driver driverFrom joinedByte
 joined-turn t i x xs =
     let any : Bool = some-of (isKind Aborted) xs in
-    let more = or-assoc (t .aborted) (aborts (x .kind)) any ∙ ap (λ (b : Bool). t .aborted || (b || any)) (aborts-is (x .kind)) in
+    let more = or-assoc (t .aborted) (isAborted (x .kind)) any ∙ ap (λ (b : Bool). t .aborted || (b || any)) (sym (letter-aborted (x .kind))) in
     let parts = go (t .address .driven) (x .address .driven) refl refl in
     let sup = or-assoc (t .sup) (x .sup) (some-of (λ (y : Answer). y .sup) xs) in
     let trap = or-assoc (t .trap) (x .trap) (some-of (λ (y : Answer). y .trap) xs) in
     let drives = or-assoc (t .drives) (x .drives) (some-of (λ (y : Answer). y .drives) xs) in
     let byte = bits.or-assoc (t .byte) (x .byte) (joinedByte xs) in
     λ j. record {
-      kind = (parts .0 ((t .aborted || aborts (x .kind)) || any) ∙ ap (λ (b : Bool). ahead-kind b) more) j;
+      kind = (parts .0 ((t .aborted || isAborted (x .kind)) || any) ∙ ap (λ (b : Bool). ahead-kind b) more) j;
       address = parts .1 j;
       distance = parts .2 j;
       named = parts .3 j;

@@ -1,5 +1,5 @@
 -- What is kept of the answers of a board's units while they are joined one after another, and what the answers of all come to.
-use mathlib.Core.Bool.{Bool, true, false, not, cond, _&&_, _||_}
+use mathlib.Core.Bool.{Bool, false, not, cond, _&&_, _||_}
 use mathlib.Core.List.{List}
 use Prim.Native.Nat.{ℕ}
 use lib.Bits.{bitOr}
@@ -8,23 +8,14 @@ use Rattle.rules.specs.declared.Address.{Address}
 use Rattle.rules.specs.declared.Answer.{Answer}
 use Rattle.rules.specs.declared.Cycle.{Cycle}
 use Rattle.rules.specs.declared.Kind.{Kind}
-use Rattle.rules.specs.declared.Kind.the-variants.{Reset, Acknowledge, Command, Aborted, Translated, Passed, Ignored, Refused}
+use Rattle.rules.specs.declared.Kind.the-variants.{Aborted, Ignored}
+use Rattle.theorems_runs.specs.Answers.{isAborted}
 use Rattle.theorems_runs.specs.Cycles.{acknowledge}
 use Rattle.board_rules.specs.Board.{isKind, some-of, silent, driver, driverFrom, joinedByte, kindBy}
 use Rattle.board_rules.specs.declared.BoardAnswer.{BoardAnswer}
 use Rattle.board_rules.specs.declared.Named.{Named}
 use Rattle.board_rules.specs.declared.Named.the-variants.{Nobody, Number}
 use Rattle.board_answers.specs.declared.Joint.{Joint}
-
-abbrev pub aborts : Kind → Bool
-aborts Reset = false
-aborts Acknowledge = false
-aborts Command = false
-aborts Aborted = true
-aborts Translated = false
-aborts Passed = false
-aborts Ignored = false
-aborts (Refused n) = false
 
 -- no answer yet
 abbrev pub nothing : Joint
@@ -51,7 +42,7 @@ joining t i x = record {
   address = cond (takes t x) (x .address) (t .address);
   distance = cond (takes t x) (x .distance) (t .distance);
   driver = cond (takes t x) i (t .driver);
-  aborted = t .aborted || aborts (x .kind);
+  aborted = t .aborted || isAborted (x .kind);
   sup = t .sup || x .sup;
   trap = t .trap || x .trap;
   drives = t .drives || x .drives;

@@ -1,8 +1,9 @@
 // Ticket 3's joined lines: what a board answers that does not refuse, from the answers of its units, one after another.
 ghost use mathlib.Core.Path.{_≡_};
 ghost use mathlib.Core.Bool.{cond};
+ghost use Rattle.theorems_runs.specs.Answers.{isAborted};
 ghost use Rattle.board_rules.specs.Board.{kindBy};
-ghost use Rattle.board_answers.specs.Joint.{aborts, nothing, joining, quietly, nobodyIn, namedIn, told};
+ghost use Rattle.board_answers.specs.Joint.{nothing, joining, quietly, nobodyIn, namedIn, told};
 use board_rules::BoardAnswer;
 use board_rules::Named;
 use rules::Address;
@@ -47,7 +48,7 @@ pub fn nothing() -> Joint
 
 // An aborted fetch.
 fn aborts(k: Kind) -> bool
-    ensures { λ b. ⌜ b ≡ aborts k ⌝ }
+    ensures { λ b. ⌜ b ≡ isAborted k ⌝ }
 {
     match k {
         Kind::Reset => false,

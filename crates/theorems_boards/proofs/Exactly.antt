@@ -72,7 +72,7 @@ some-same (x ∷ y ∷ l) false h = some-same (y ∷ l) false (omega arith)
 
 -- Aborted fetches
 
-letter-aborted : (k : Kind) → isKind Aborted (silent k false) ≡ isAborted k
+pub letter-aborted : (k : Kind) → isKind Aborted (silent k false) ≡ isAborted k
 letter-aborted Reset = refl
 letter-aborted Acknowledge = refl
 letter-aborted Command = refl
