@@ -4,6 +4,7 @@ use mathlib.Core.Path.{_≡_, refl, sym, _∙_, ap}
 use mathlib.Core.Bool.{Bool, true, false, not, cond, _&&_, _||_, or-false, or-assoc}
 use mathlib.Core.List.{List, [], _∷_, map}
 use Prim.Native.Nat.{ℕ, suc}
+use native.Mathlib.Omega.{arith}
 use lib.Bits.{or-zero-l, or-zero-r}
 use Rattle.rules.specs.declared.Answer.{Answer}
 use Rattle.rules.specs.declared.Cycle.{Cycle}
@@ -15,7 +16,7 @@ use Rattle.theorems_runs.specs.Cycles.{acknowledge}
 use Rattle.theorems_runs.specs.Sequences.{Every}
 use Rattle.board_rules.specs.Board.{Seat, seenBy, answerOf, isKind, some-of, silent, driver, driverFrom, joinedByte, kindBy, kindOf, joined}
 use Rattle.theorems_boards.specs.Numbers.{seatCommanded}
-use Rattle.theorems_boards.proofs.Exactly.{letter-aborted}
+use Rattle.theorems_boards.proofs.Exactly.{letter-aborted, some-same}
 use Rattle.theorems_boards.proofs.Forms.{Accepted, accepted-form}
 use Rattle.theorems_boards.proofs.Lists.{every-imp, some-ext, some-map}
 use Rattle.board_answers.specs.Joint.{nothing, takes, joining, quietly, nobodyIn, told, Whole, ahead}
@@ -73,13 +74,6 @@ cond-both : {A : Type 0} (b : Bool) (x : A) → cond b x x ≡ x
 cond-both true x = refl
 cond-both false x = refl
 
--- what is the same of all seats is so of some, where there is one
-some-alike : (b : Bool) (s : Seat) (ss : List Seat) → some-of (λ (z : Seat). b) (s ∷ ss) ≡ b
-unfolding some-of
-some-alike true s ss = refl
-some-alike false s [] = refl
-some-alike false s (z ∷ ss) = some-alike false z ss
-
 module _ (c : Cycle) (s : Seat) (ss : List Seat) (a : Every (λ z. Accepted (answerOf c z)) (s ∷ ss)) where
   abbrev all : List Seat
   all = s ∷ ss
@@ -91,12 +85,12 @@ module _ (c : Cycle) (s : Seat) (ss : List Seat) (a : Every (λ z. Accepted (ans
 
   resets-is : some-of (isKind Reset) (map (answerOf c) all) ≡ c .reset
   unfolding seenBy
-  resets-is = tested Reset (λ z. c .reset) (λ z e. accepted-form (z .unit) (seenBy (z .select) c) e .resets) ∙ some-alike (c .reset) s ss
+  resets-is = tested Reset (λ z. c .reset) (λ z e. accepted-form (z .unit) (seenBy (z .select) c) e .resets) ∙ some-same all (c .reset) (omega arith)
 
   acknowledges-is : some-of (isKind Acknowledge) (map (answerOf c) all) ≡ acknowledge c
   unfolding seenBy
   acknowledges-is =
-      tested Acknowledge (λ z. acknowledge c) (λ z e. accepted-form (z .unit) (seenBy (z .select) c) e .acks) ∙ some-alike (acknowledge c) s ss
+      tested Acknowledge (λ z. acknowledge c) (λ z e. accepted-form (z .unit) (seenBy (z .select) c) e .acks) ∙ some-same all (acknowledge c) (omega arith)
 
   commands-is : some-of (isKind Command) (map (answerOf c) all) ≡ some-of (seatCommanded c) all
   commands-is = tested Command (seatCommanded c) (λ z e. accepted-form (z .unit) (seenBy (z .select) c) e .command)

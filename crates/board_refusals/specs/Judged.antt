@@ -14,7 +14,7 @@ use Rattle.rules.specs.declared.Registers.{Registers}
 use Rattle.board_rules.specs.Board.{Seat, Refusal, nobodys, some-of, two-of, requests}
 use Rattle.board_rules.specs.declared.Named.the-variants.{Number}
 use Rattle.theorems_runs.specs.Cycles.{acknowledge, memoryCycle}
-use Rattle.theorems_boards.specs.Numbers.{mayDrive, seatNumber, lowestFrom, ownOf, seatDrives, seatCommanded}
+use Rattle.theorems_boards.specs.Numbers.{mayDrive, seatNumber, lowestFrom, seatDrives, seatCommanded}
 use Rattle.board_refusals.specs.declared.Asked.{Asked}
 use Rattle.board_refusals.specs.declared.Judged.{Judged}
 
@@ -43,7 +43,6 @@ codeNumber m read = cond read (readNumber m) (writeNumber m)
 abbrev pub asking : Cycle → Asked
 asking c = record {
   outside = outOfRange c;
-  all = c .reset || acknowledge c;
   memory = memoryCycle c;
   command = not (c .reset) && eqb (c .status) 3 && cpu c;
   number = codeNumber (commandOf (c .offset)) (c .read);
@@ -53,7 +52,7 @@ asking c = record {
 -- own or hold
 abbrev pub concerns : Registers → (select : Bool) → Cycle → Asked → Bool
 concerns r select c q =
-    q .all
+    (c .reset || acknowledge c)
     || ((q .command && select)
     || (q .memory && ((r .notes .awaits || (r .notes .own || r .notes .hold)) || mayDrive (r .control .mr) c)))
 
@@ -92,16 +91,6 @@ pub record Judgement : Type 0 where
   pub command : Bool
   pub several : Bool
   pub stood : Bool
-
--- what the seats of a board come to
-unfoldable pub judgement : Cycle → List Seat → Judgement
-judgement c ss = record {
-  own = ownOf c ss;
-  clash = two-of (λ s. memoryCycle c && seatDrives c s) ss;
-  command = some-of (seatCommanded c) ss;
-  several = two-of (seatCommanded c) ss;
-  stood = some-of requests ss;
-}
 
 abbrev pub twoAhead : (p : Seat → Bool) → (one two : Bool) → List Seat → Bool
 twoAhead p one two ss = two || cond one (some-of p ss) (two-of p ss)

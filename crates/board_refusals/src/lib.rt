@@ -2,7 +2,7 @@
 ghost use mathlib.Core.Path.{_≡_};
 ghost use Rattle.board_rules.specs.Board.{refusing};
 ghost use Rattle.theorems_boards.specs.Numbers.{mayDrive};
-ghost use Rattle.board_refusals.specs.Judged.{readNumber, writeNumber, asking, concerns, ownNumberOf, unjudged, judging, refuses, refusalIn};
+ghost use Rattle.board_refusals.specs.Judged.{readNumber, writeNumber, asking, ownNumberOf, unjudged, judging, refuses, refusalIn};
 use board_rules::Board;
 use board_rules::BoardAnswer;
 use board_rules::Named;
@@ -24,11 +24,10 @@ const UNLISTED: u8 = 3;
 
 const WRONG_WAY: u8 = 4;
 
-// What a cycle asks of every unit alike: whether it is past its numbers, for all units (a reset, an acknowledge), a memory cycle, a command to
-// the units that are selected, and the number that says no to this command.
+// What a cycle asks of every unit alike: whether it is past its numbers, a memory cycle, a command to the units that are selected, and the
+// number that says no to this command.
 pub struct Asked {
     pub outside: bool,
-    pub all: bool,
     pub memory: bool,
     pub command: bool,
     pub number: u8,
@@ -84,7 +83,6 @@ pub fn ask(c: Cycle) -> Asked
     let m = decode::command(c.offset);
     Asked {
         outside,
-        all: c.reset | (!c.reset & (c.status == Unit::ACKNOWLEDGE) & !c.dma),
         memory: !c.reset & ((8 <= c.status) & (c.status <= 13)),
         command: !c.reset & (c.status == Unit::COMMAND) & !c.dma,
         number: pick(c.read, read_number(m), write_number(m)),
@@ -98,15 +96,6 @@ pub fn may_drive(mr: u8, c: Cycle) -> bool
     let half = (mr & Unit::URS != 0) == (c.segment & Unit::UPPER != 0);
     let mode = (mr & Unit::NMS != 0) == c.normal;
     (mr & Unit::MSEN != 0) & (!(mr & Unit::TRNS != 0) | (half & (!(mr & Unit::MST != 0) | mode)))
-}
-
-// Whether the cycle concerns the unit: one that it does not shows its request and stays as it is.
-pub fn concerns(r: Registers, select: bool, c: Cycle, q: Asked) -> bool
-    ensures { λ b. ⌜ b ≡ concerns r select c q ⌝ }
-{
-    let busy = r.notes.awaits | (r.notes.own | r.notes.hold);
-    let drives = may_drive(r.control.mr, c);
-    q.all | ((q.command & select) | (q.memory & (busy | drives)))
 }
 
 // A unit's own number, and 0 for none.

@@ -63,7 +63,7 @@ module _ (c : Cycle) (ss : List Seat) (a : Every (λ s. Accepted (answerOf c s))
       ∙ some-ext _ _ ss (every-imp _ _ (λ s e. accepted-form (s .unit) (seenBy (s .select) c) e .command) ss a)
 
 -- what all agree on, where there is any
-some-same : {A : Type 0} (l : List A) (t : Bool) → 0 < length l → some-of (λ x. t) l ≡ t
+pub some-same : {A : Type 0} (l : List A) (t : Bool) → 0 < length l → some-of (λ x. t) l ≡ t
 unfolding some-of
 some-same [] t h = absurd (omega arith)
 some-same (x ∷ l) true h = refl

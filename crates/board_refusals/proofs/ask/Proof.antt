@@ -7,7 +7,7 @@ use Rattle.board_refusals.proofs.ask.Tie as tie
 returns : tie.Need-returns
 returns c =
     let reads = c .before .before in
-    let decoded = reads .before .before .before .before .before .before .before .before .before .before .before in
+    let decoded = reads .before .before .before .before .before .before .before in
     rw (
       c .pick .ensures,
       c .before .write-number .ensures,
