@@ -12,6 +12,7 @@ use Rattle.rules.specs.Bus.{cpu}
 use Rattle.rules.specs.Refusals.{damaged, outOfRange}
 use Rattle.rules.specs.declared.Cycle.{Cycle}
 use Rattle.rules.specs.declared.Registers.{Registers}
+use Rattle.theorems_runs.specs.Cycles.{acknowledge}
 use Rattle.theorems_runs.proofs.Tests.{and-l, and-r}
 use Rattle.board_rules.specs.Board.{Seat}
 use Rattle.board_rules.specs.declared.Named.the-variants.{Number}
@@ -22,7 +23,7 @@ use Rattle.board_refusals.proofs.Laws.{judged-turn, commanded-is}
 module _ (c : Cycle) where
   -- the three classes exclude each other
   pub record Class (all command memory : Bool) : Type 0 where
-    pub all-is : asking c .all ≡ all
+    pub all-is : (c .reset || acknowledge c) ≡ all
     pub command-is : asking c .command ≡ command
     pub memory-is : asking c .memory ≡ memory
 
@@ -40,7 +41,7 @@ module _ (c : Cycle) where
   at-least : (leb 8 (c .status) && leb (c .status) 13) ≡ true → 8 ≤ c .status
   at-least e = leb-true 8 (c .status) (and-l (leb 8 (c .status)) (leb (c .status) 13) e)
 
-  pub all-class : asking c .all ≡ true → Class true false false
+  pub all-class : (c .reset || acknowledge c) ≡ true → Class true false false
   all-class e =
       let h = classes (c .reset) (cpu c) (c .status) (leb 8 (c .status) && leb (c .status) 13) at-least e in
       record { all-is = e; command-is = h .0; memory-is = h .1 }

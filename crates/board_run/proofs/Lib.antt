@@ -7,3 +7,4 @@ pub mod Stepping
 pub mod Boards
 pub mod Turns
 pub mod Ends
+pub mod Known
