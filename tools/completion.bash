@@ -1,6 +1,7 @@
 # Completion of ./distantarm for bash: '. tools/completion.bash', from any folder, or in ~/.bashrc with the whole name.
-# The first word is a command. The others go by what the command's opening comment says that it takes: of CAPTURE files .mbt, of SCRIPT files
-# .script, of FOLDER folders, of NAME the programs that can be built, of OURS and YOURS files of any name, and words in small letters themselves.
+# The first word is a command. The others go by what the command's opening comment says that it takes: for CAPTURE files .mbt, for SCRIPT
+# files .script, for FOLDER folders, for NAME the programs that can be built, for OURS files of any name, and words in small letters as they
+# are.
 
 _distantarm_root=$(dirname -- "$(readlink -f -- "${BASH_SOURCE[0]}")")/..
 
