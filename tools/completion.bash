@@ -1,7 +1,6 @@
 # Completion of ./distantarm for bash: '. tools/completion.bash', from any folder, or in ~/.bashrc with the whole name.
 # The first word is a command. The others go by what the command's opening comment says that it takes: for CAPTURE files .mbt, for SCRIPT
-# files .script, for FOLDER folders, for NAME the programs that can be built, for OURS files of any name, and words in small letters as they
-# are.
+# files .script, for FOLDER folders, for NAME programs, for CRATE crates, for OURS files of any name, and words in small letters as they are.
 
 _distantarm_root=$(dirname -- "$(readlink -f -- "${BASH_SOURCE[0]}")")/..
 
@@ -16,11 +15,11 @@ _distantarm_files() { # [PATTERN]: folders, and files of that name
     [ $# -eq 0 ] || _distantarm_add -f -X "!$1"
 }
 
-_distantarm_programs() {
-    local main
-    for main in "$_distantarm_root"/crates/*/src/main.rt; do
-        main=${main%/src/main.rt}
-        echo "${main##*/}"
+_distantarm_crates() { # FILE: the crates that have such a file
+    local file
+    for file in "$_distantarm_root"/crates/*/src/$1.rt; do
+        file=${file%/src/*}
+        echo "${file##*/}"
     done
 }
 
@@ -34,7 +33,8 @@ _distantarm_arguments() { # COMMAND
         SCRIPT) _distantarm_files '*.script' ;;
         OURS) _distantarm_files '*' ;;
         FOLDER) _distantarm_files ;;
-        NAME) _distantarm_add -W "$(_distantarm_programs)" ;;
+        NAME) _distantarm_add -W "$(_distantarm_crates main)" ;;
+        CRATE) _distantarm_add -W "$(_distantarm_crates '*')" ;;
         -? | [a-z]*) _distantarm_add -W "$argument" ;;
         esac
     done
