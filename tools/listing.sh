@@ -13,7 +13,7 @@ grouped() { # NUMBER: below a million, as 16,000
     if [ "$1" -lt 1000 ]; then echo "$1"; else printf '%d,%03d\n' $(($1 / 1000)) $(($1 % 1000)); fi
 }
 
-room=$(mktemp -d) || decline "no temporary folder can be made"
+room=$(mktemp -d 2>/dev/null) || decline "no temporary folder can be made"
 trap 'trap "" HUP INT PIPE TERM; rm -rf "$room"' EXIT
 end_by() { # SIGNAL: ends as a program does that has no trap for it
     trap '' HUP INT TERM
