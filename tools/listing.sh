@@ -16,15 +16,13 @@ grouped() { # NUMBER: below a million, as 16,000
 room=$(mktemp -d 2>/dev/null) || decline "no temporary folder can be made"
 trap 'trap "" HUP INT PIPE TERM; rm -rf "$room"' EXIT
 end_by() { # SIGNAL: ends as a program does that has no trap for it
-    trap '' HUP INT TERM
+    trap '' HUP INT PIPE TERM
     rm -rf "$room"
     trap - EXIT "$1"
     kill -s "$1" $$
     exit 1
 }
-trap 'end_by HUP' HUP
-trap 'end_by INT' INT
-trap 'end_by TERM' TERM
+for signal in HUP INT PIPE TERM; do trap "end_by $signal" "$signal"; done
 
 # The opening comment of the caller. A release has no front door, and its captures stand elsewhere.
 explain() {
