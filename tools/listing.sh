@@ -50,18 +50,19 @@ take() { # TAKES WHAT ARGUMENTS..: what it takes, as the usage has it and in wor
     exec <"$1"
 }
 
-# Has the program ready: built, or in a release for this machine.
+# Has the program ready: built, or in a release for this machine. A process that a signal can end has a shell of its own around it: so what
+# sh says of that is left out.
 prepare() { # PROGRAM
     emulator=''
     if [ -z "$release" ]; then
-        sh "$parts/build" "$1" </dev/null || exit
+        { (exec sh "$parts/build" "$1" </dev/null 2>&4) || exit; } 4>&2 2>/dev/null
     elif [ "$(uname -m)" != x86_64 ]; then
         emulator=qemu-x86_64
         command -v "$emulator" >/dev/null 2>&1 || decline "the program is for x86-64, and this machine is $(uname -m) without '$emulator'"
     fi
 }
-launch() { # PROGRAM
-    if [ -z "$release" ]; then sh "$parts/exec" "$1"; else ${emulator:+"$emulator"} "$parts/$1"; fi
+become() { # PROGRAM
+    if [ -z "$release" ]; then exec sh "$parts/exec" "$1"; else exec ${emulator:+"$emulator"} "$parts/$1"; fi
 }
 
 # The input, with one byte more than the program reads, by which a longer one is known.
@@ -72,9 +73,9 @@ keep_input() {
     *) fail "the input could not be kept in a temporary file${why:+: ${why##*: }}" ;;
     esac
 }
-# All that the program prints. What sh says of a process that a signal ended is left out.
+# All that the program prints.
 keep_output() { # PROGRAM
-    { { launch "$1" <"$room/in" 2>&4 || echo $? >"$room/ended"; } | cat >"$room/out" ||
+    { { (become "$1" <"$room/in" 2>&4) || echo $? >"$room/ended"; } | cat >"$room/out" ||
         fail "the listing could not be written whole: it does not fit in a temporary file" 2>&4; } 4>&2 2>/dev/null
     [ -f "$room/ended" ] || return 0
     status=$(cat "$room/ended")
