@@ -96,6 +96,9 @@ impl Judged {
         let fault = match self.wrong.same {
             Some(_) if told => "is told, but said to be the same",
             None if !told => "is not told",
+            None if self.wrong.by_scripts && self.captures > 0 => {
+                "is told by a capture, but said to be told by scripts alone"
+            }
             _ => return None,
         };
         Some(format!("\"{}\" {fault}", self.wrong.says))
@@ -118,7 +121,7 @@ impl fmt::Display for Judged {
         )?;
         match wrong.same {
             Some(reason) => write!(out, ": cannot be told, since {reason}"),
-            None if captures + boards == 0 => out.write_str(": by scripts alone"),
+            None if wrong.by_scripts => out.write_str(": by scripts alone"),
             None => Ok(()),
         }
     }

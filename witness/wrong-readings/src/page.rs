@@ -164,8 +164,8 @@ fn fit(judged: &[Judged]) -> Result<(), String> {
         if !RULES.iter().any(|(named, _)| *named == rule) {
             return Err(format!("page.rs has no words for the rule {rule}"));
         }
-        if one.captures > 0 && one.compared + one.cases == 0 {
-            return Err(format!("\"{says}\" is told by nothing that is compared"));
+        if one.wrong.run_told_by_captures().is_some() && one.compared == 0 {
+            return Err(format!("\"{says}\" is told by no capture that is compared"));
         }
     }
     Ok(())
@@ -237,13 +237,16 @@ There are {readings} wrong readings. {captures} are told by captures; {cases} by
 a damaged unit (an orphan is one), a number out of range, own without await or a low byte other than 0, or shows own or \
 the kept low byte; {boards}, of a board, by board scripts, since nothing else has one; {same} cannot be told, because they \
 come out the same. The first {COMPARED} captures and all scripts go through the proved programs in \
-`tools/compare`, and these alone tell every wrong reading that can be told.
+`tools/compare`, and these alone tell every wrong reading that can be told: the {COMPARED} captures tell all {captures}. \
+`sh tools/golden FOLDER` writes those captures with their listings. The golden set, `samples/golden/`, tells the {captures} too, with \
+few and short captures, and names them.
 
     sh tools/wrong-readings
 
 holds this page to the wrong readings, and fails where one is not told. `sh tools/wrong-readings renew` writes the page \
 anew, and `sh tools/wrong-readings list` prints every wrong reading by name, with how many captures and cases of scripts \
-tell it. None of them is a part of `tools/test`.
+tell it. `sh tools/wrong-readings golden` holds the golden set to what it must tell, and `sh tools/wrong-readings cover` \
+chooses it anew. Of all these only `golden` is a part of `tools/test`.
 
 Each row is a rule, with its name in the witness; then how many wrong readings of it there are; how many of them \
 captures tell, and by how many of {CAPTURES} captures at least; how many only step scripts tell, and by how many of \

@@ -236,24 +236,24 @@ wrong! { Checks:
             descriptor.has(attribute::CPUI) && cycle.dma
         }
     }
-    LowEndsBlock "the last byte of the block at the limit is outside, upward" {
+    LowEndsBlock "the last byte of the block at the limit is outside, upward" by scripts {
         fn outside(descriptor: &Descriptor, cycle: &Cycle) -> bool {
             let end = at_limit(descriptor, cycle) && cycle.low == 0xFF;
             Document01::outside(descriptor, cycle) || end
         }
     }
-    LowInLimit "in the block at the limit only a low byte of 0 is inside, upward" {
+    LowInLimit "in the block at the limit only a low byte of 0 is inside, upward" by scripts {
         fn outside(descriptor: &Descriptor, cycle: &Cycle) -> bool {
             let beyond = at_limit(descriptor, cycle) && cycle.low != 0;
             Document01::outside(descriptor, cycle) || beyond
         }
     }
-    WarnsAtLowZero "only a write with a low byte of 0 warns" {
+    WarnsAtLowZero "only a write with a low byte of 0 warns" by scripts {
         fn warns(descriptor: &Descriptor, cycle: &Cycle) -> bool {
             cycle.low == 0 && Document01::warns(descriptor, cycle)
         }
     }
-    WarnsInLowHalf "only a write in the lower half of the block at the limit warns" {
+    WarnsInLowHalf "only a write in the lower half of the block at the limit warns" by scripts {
         fn warns(descriptor: &Descriptor, cycle: &Cycle) -> bool {
             cycle.low < 0x80 && Document01::warns(descriptor, cycle)
         }
@@ -408,7 +408,7 @@ wrong! { Checks:
             Document01::distance(descriptor, cycle).min(0x7F)
         }
     }
-    DistanceOfLow "a low byte other than 0 leaves one whole block less" {
+    DistanceOfLow "a low byte other than 0 leaves one whole block less" by scripts {
         fn distance(descriptor: &Descriptor, cycle: &Cycle) -> u8 {
             let part = u8::from(cycle.low != 0);
             Document01::distance(descriptor, cycle).saturating_sub(part)

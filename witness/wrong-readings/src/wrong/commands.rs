@@ -223,7 +223,7 @@ wrong! { Commands:
             clear_vtr_and(unit, code, data, |unit| unit.awaits = false);
         }
     }
-    ClearVtrOwn "clear VTR clears own" {
+    ClearVtrOwn "clear VTR clears own" by scripts {
         fn write_register(unit: &mut Unit, code: u8, data: u8) {
             clear_vtr_and(unit, code, data, |unit| unit.own = false);
         }
@@ -598,7 +598,7 @@ wrong! { Commands:
             }
         }
     }
-    VoffReadClearsLow "a read of VOFF clears the low byte" {
+    VoffReadClearsLow "a read of VOFF clears the low byte" by scripts {
         fn command(unit: &mut Unit, cycle: &Cycle) -> Option<u8> {
             if cycle.offset == code::VOFF {
                 unit.low = 0;
@@ -606,12 +606,12 @@ wrong! { Commands:
             Document01::command(unit, cycle)
         }
     }
-    ClearVtrLow "clear VTR clears the low byte" {
+    ClearVtrLow "clear VTR clears the low byte" by scripts {
         fn write_register(unit: &mut Unit, code: u8, data: u8) {
             clear_vtr_and(unit, code, data, |unit| unit.low = 0);
         }
     }
-    ClearFlagLow "clear SWW and clear FATL clear the low byte" {
+    ClearFlagLow "clear SWW and clear FATL clear the low byte" by scripts {
         fn write_register(unit: &mut Unit, code: u8, data: u8) {
             Document01::write_register(unit, code, data);
             if matches!(code, code::CLEAR_SWW | code::CLEAR_FATL) {
@@ -619,7 +619,7 @@ wrong! { Commands:
             }
         }
     }
-    ModeClearsLow "a write of MR clears the low byte" {
+    ModeClearsLow "a write of MR clears the low byte" by scripts {
         fn write_register(unit: &mut Unit, code: u8, data: u8) {
             Document01::write_register(unit, code, data);
             if code == code::MR {
@@ -627,7 +627,7 @@ wrong! { Commands:
             }
         }
     }
-    SoftwareResetClearsLow "software reset clears the low byte" {
+    SoftwareResetClearsLow "software reset clears the low byte" by scripts {
         fn software_reset(unit: &mut Unit) {
             Document01::software_reset(unit);
             unit.low = 0;

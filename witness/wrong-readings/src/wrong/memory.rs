@@ -459,19 +459,19 @@ wrong! { Memory:
             answer
         }
     }
-    LowOfTranslated "every translated cycle stores the low byte" {
+    LowOfTranslated "every translated cycle stores the low byte" by scripts {
         fn translated(unit: &mut Unit, cycle: &Cycle, address: u16, held: bool) -> Answer {
             unit.low = cycle.low;
             Document01::translated(unit, cycle, address, held)
         }
     }
-    LowOfMemory "every memory cycle stores the low byte" {
+    LowOfMemory "every memory cycle stores the low byte" by scripts {
         fn memory(unit: &mut Unit, cycle: &Cycle) -> Answer {
             unit.low = cycle.low;
             Document01::memory(unit, cycle)
         }
     }
-    LowOfInstruction "a fetch that stores ISN and IOFF stores the low byte" {
+    LowOfInstruction "a fetch that stores ISN and IOFF stores the low byte" by scripts {
         fn memory(unit: &mut Unit, cycle: &Cycle) -> Answer {
             let answer = Document01::memory(unit, cycle);
             if stored_instruction(unit, cycle, &answer) {
@@ -480,13 +480,13 @@ wrong! { Memory:
             answer
         }
     }
-    LowOfAborted "the aborted fetch stores the low byte" {
+    LowOfAborted "the aborted fetch stores the low byte" by scripts {
         fn aborted_fetch(unit: &mut Unit, cycle: &Cycle) -> Answer {
             unit.low = cycle.low;
             Document01::aborted_fetch(unit, cycle)
         }
     }
-    LowOfDma "a DMA violation stores the low byte" {
+    LowOfDma "a DMA violation stores the low byte" by scripts {
         fn translated(unit: &mut Unit, cycle: &Cycle, address: u16, held: bool) -> Answer {
             let answer = Document01::translated(unit, cycle, address, held);
             if cycle.dma && answer.sup {
@@ -495,7 +495,7 @@ wrong! { Memory:
             answer
         }
     }
-    LowOfDmaFirst "a DMA violation stores the low byte while no primary flag stands" {
+    LowOfDmaFirst "a DMA violation stores the low byte while no primary flag stands" by scripts {
         fn translated(unit: &mut Unit, cycle: &Cycle, address: u16, held: bool) -> Answer {
             let answer = Document01::translated(unit, cycle, address, held);
             if cycle.dma && answer.sup && unit.vtr == 0 {
@@ -504,7 +504,7 @@ wrong! { Memory:
             answer
         }
     }
-    LowEndsWithInstruction "the start of an instruction clears the low byte" {
+    LowEndsWithInstruction "the start of an instruction clears the low byte" by scripts {
         fn start_instruction(unit: &mut Unit) {
             Document01::start_instruction(unit);
             unit.low = 0;

@@ -21,13 +21,13 @@ use witness::text::Text;
 use witness::unit::Unit;
 use witness::{board_script, script, Document01};
 
+/// How a reading runs a trace.
+pub type Run = fn(&[u8]) -> Vec<u8>;
+
 /// What a wrong reading prints: that of a unit for a trace and for a step script,
 /// that of a board for a board script.
 pub enum Prints {
-    Unit {
-        run: fn(&[u8]) -> Vec<u8>,
-        play: fn(&str) -> String,
-    },
+    Unit { run: Run, play: fn(&str) -> String },
     Board(fn(&[u8]) -> Vec<u8>),
 }
 
@@ -37,6 +37,8 @@ pub struct Wrong {
     pub says: &'static str,
     /// Why nothing can tell it from the right reading, if nothing can.
     pub same: Option<&'static str>,
+    /// Only scripts can tell it: no capture reaches, or shows, what it is about.
+    pub by_scripts: bool,
     pub prints: Prints,
 }
 
@@ -50,6 +52,16 @@ impl Prints {
 
     const fn of_board<R: Board>() -> Prints {
         Prints::Board(board_script::run::<R>)
+    }
+}
+
+impl Wrong {
+    /// How it runs a trace, if some capture tells it from the right reading.
+    pub fn run_told_by_captures(&self) -> Option<Run> {
+        match self.prints {
+            Prints::Unit { run, .. } if self.same.is_none() && !self.by_scripts => Some(run),
+            _ => None,
+        }
     }
 }
 
@@ -86,10 +98,13 @@ fn carried(distance: u8, answer: Answer, kinds: fn(Kind) -> bool) -> Answer {
 
 /// A list of wrong readings of one trait's rules: for each a type that has the
 /// methods given and every other rule as the paper has it. `same` gives the
-/// reason why a reading comes out the same as the right one.
+/// reason why a reading comes out the same as the right one; `by scripts` says
+/// that no capture can tell it.
 macro_rules! wrong {
     ($rules:ident: $(
-        $name:ident $says:literal $(same $same:literal)? { fn $method:ident $($methods:tt)* }
+        $name:ident $says:literal $(same $same:literal)? $(by $scripts:ident)? {
+            fn $method:ident $($methods:tt)*
+        }
     )*) => {
         $(
             struct $name;
@@ -100,6 +115,7 @@ macro_rules! wrong {
                 rule: concat!(stringify!($rules), "::", stringify!($method)),
                 says: $says,
                 same: $crate::wrong::reason!($($same)?),
+                by_scripts: $crate::wrong::by_scripts!($($scripts)?),
                 prints: $crate::wrong::prints!($rules $name),
             }
         ),*];
@@ -121,6 +137,15 @@ macro_rules! reason {
     };
     ($same:literal) => {
         Some($same)
+    };
+}
+
+macro_rules! by_scripts {
+    () => {
+        false
+    };
+    (scripts) => {
+        true
     };
 }
 
@@ -179,4 +204,4 @@ macro_rules! paper {
     };
 }
 
-pub(crate) use {paper, prints, reason, with_paper, wrong};
+pub(crate) use {by_scripts, paper, prints, reason, with_paper, wrong};

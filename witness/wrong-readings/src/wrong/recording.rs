@@ -56,7 +56,7 @@ wrong! { Recording:
             unit.vtr |= if system { violation::SWW } else { flags };
         }
     }
-    OwnRequests "a further entry of the own instruction requests" {
+    OwnRequests "a further entry of the own instruction requests" by scripts {
         fn further_entry(unit: &mut Unit, cycle: &Cycle, flags: u8) {
             Document01::further_entry(unit, cycle, flags);
             Document01::trap(unit);
@@ -389,59 +389,59 @@ wrong! { Recording:
             unit.voff = cycle.offset.wrapping_add(base.to_be_bytes()[1]);
         }
     }
-    LowSevenBits "seven bits of the low byte are kept" {
+    LowSevenBits "seven bits of the low byte are kept" by scripts {
         fn kept_low(cycle: &Cycle) -> u8 {
             cycle.low & 0x7F
         }
     }
-    LowOfWord "the low byte is kept as a word's, with bit 0 clear" {
+    LowOfWord "the low byte is kept as a word's, with bit 0 clear" by scripts {
         fn kept_low(cycle: &Cycle) -> u8 {
             cycle.low & 0xFE
         }
     }
-    LowIsOffset "the offset byte is kept in the low byte's place" {
+    LowIsOffset "the offset byte is kept in the low byte's place" by scripts {
         fn kept_low(cycle: &Cycle) -> u8 {
             cycle.offset
         }
     }
-    LowIsData "the data byte is kept in the low byte's place" {
+    LowIsData "the data byte is kept in the low byte's place" by scripts {
         fn kept_low(cycle: &Cycle) -> u8 {
             cycle.data
         }
     }
-    LowIsZero "every low byte is kept as 0, as a version 1 trace has it" {
+    LowIsZero "every low byte is kept as 0, as a version 1 trace has it" by scripts {
         fn kept_low(_cycle: &Cycle) -> u8 {
             0
         }
     }
-    LowNever "the low byte is never stored" {
+    LowNever "the low byte is never stored" by scripts {
         fn store(unit: &mut Unit, cycle: &Cycle) {
             store_low_if(unit, cycle, false);
         }
     }
-    LowOnce "the low byte is stored only if 0 is kept" {
+    LowOnce "the low byte is stored only if 0 is kept" by scripts {
         fn store(unit: &mut Unit, cycle: &Cycle) {
             store_low_if(unit, cycle, unit.low == 0);
         }
     }
-    LowNotZero "a low byte of 0 is not stored" {
+    LowNotZero "a low byte of 0 is not stored" by scripts {
         fn store(unit: &mut Unit, cycle: &Cycle) {
             store_low_if(unit, cycle, cycle.low != 0);
         }
     }
-    LowJoins "the low byte's bits are added to those that are kept" {
+    LowJoins "the low byte's bits are added to those that are kept" by scripts {
         fn store(unit: &mut Unit, cycle: &Cycle) {
             let low = unit.low;
             Document01::store(unit, cycle);
             unit.low |= low;
         }
     }
-    LowUntilAcknowledge "the low byte is not stored while a request stands" {
+    LowUntilAcknowledge "the low byte is not stored while a request stands" by scripts {
         fn store(unit: &mut Unit, cycle: &Cycle) {
             store_low_if(unit, cycle, !unit.request);
         }
     }
-    LowOncePerInstruction "the low byte is not stored while own stands" {
+    LowOncePerInstruction "the low byte is not stored while own stands" by scripts {
         fn store(unit: &mut Unit, cycle: &Cycle) {
             store_low_if(unit, cycle, !unit.own);
         }
@@ -458,7 +458,7 @@ wrong! { Recording:
             Document01::store(unit, &Cycle { offset, low, ..*cycle });
         }
     }
-    LowNotOfWarnings "a first warning leaves the low byte" {
+    LowNotOfWarnings "a first warning leaves the low byte" by scripts {
         fn first_entry(unit: &mut Unit, cycle: &Cycle, flags: u8) {
             let low = unit.low;
             Document01::first_entry(unit, cycle, flags);
@@ -467,7 +467,7 @@ wrong! { Recording:
             }
         }
     }
-    LowOfWarningsOnly "a first violation leaves the low byte" {
+    LowOfWarningsOnly "a first violation leaves the low byte" by scripts {
         fn first_entry(unit: &mut Unit, cycle: &Cycle, flags: u8) {
             let low = unit.low;
             Document01::first_entry(unit, cycle, flags);
@@ -476,7 +476,7 @@ wrong! { Recording:
             }
         }
     }
-    LowOfLengthOnly "a first violation of rights alone leaves the low byte" {
+    LowOfLengthOnly "a first violation of rights alone leaves the low byte" by scripts {
         fn first_entry(unit: &mut Unit, cycle: &Cycle, flags: u8) {
             let low = unit.low;
             Document01::first_entry(unit, cycle, flags);
@@ -485,37 +485,37 @@ wrong! { Recording:
             }
         }
     }
-    LowOfOwn "a further entry of the own instruction stores the low byte" {
+    LowOfOwn "a further entry of the own instruction stores the low byte" by scripts {
         fn further_entry(unit: &mut Unit, cycle: &Cycle, flags: u8) {
             Document01::further_entry(unit, cycle, flags);
             unit.low = cycle.low;
         }
     }
-    LowOfEveryRow "every row of the recording stores the low byte" {
+    LowOfEveryRow "every row of the recording stores the low byte" by scripts {
         fn record(unit: &mut Unit, cycle: &Cycle, finding: Finding) {
             store_low_too(unit, cycle, finding, true);
         }
     }
-    LowOfFatal "FATL stores the low byte" {
+    LowOfFatal "FATL stores the low byte" by scripts {
         fn record(unit: &mut Unit, cycle: &Cycle, finding: Finding) {
             let row = later(unit) && !second(unit, cycle, finding);
             store_low_too(unit, cycle, finding, row);
         }
     }
-    LowOfFirstFatal "FATL stores the low byte when it is set" {
+    LowOfFirstFatal "FATL stores the low byte when it is set" by scripts {
         fn record(unit: &mut Unit, cycle: &Cycle, finding: Finding) {
             let clear = unit.vtr & violation::FATL == 0;
             let row = clear && later(unit) && !second(unit, cycle, finding);
             store_low_too(unit, cycle, finding, row);
         }
     }
-    LowOfSecond "SWW stores the low byte" {
+    LowOfSecond "SWW stores the low byte" by scripts {
         fn record(unit: &mut Unit, cycle: &Cycle, finding: Finding) {
             let row = second(unit, cycle, finding);
             store_low_too(unit, cycle, finding, row);
         }
     }
-    LowOfFirstSecond "SWW stores the low byte when it is set" {
+    LowOfFirstSecond "SWW stores the low byte when it is set" by scripts {
         fn record(unit: &mut Unit, cycle: &Cycle, finding: Finding) {
             let clear = unit.vtr & violation::SWW == 0;
             let row = clear && second(unit, cycle, finding);

@@ -58,18 +58,18 @@ fn carried_by(unit: &mut Unit, cycle: &Cycle, kinds: fn(Kind) -> bool) -> Answer
 }
 
 wrong! { Step:
-    ResetMends "a reset cycle is accepted by a damaged unit" {
+    ResetMends "a reset cycle is accepted by a damaged unit" by scripts {
         fn refusal(unit: &Unit, cycle: &Cycle) -> Option<u8> {
             Document01::refusal(unit, cycle).filter(|&number| number != 2 || !cycle.reset)
         }
     }
-    IgnoredByDamaged "a damaged unit ignores what it always ignores, without a refusal" {
+    IgnoredByDamaged "a damaged unit ignores what it always ignores, without a refusal" by scripts {
         fn refusal(unit: &Unit, cycle: &Cycle) -> Option<u8> {
             let ignored = class(*cycle) == Class::Ignored && !Document01::out_of_range(cycle);
             Document01::refusal(unit, cycle).filter(|&number| number != 2 || !ignored)
         }
     }
-    RangeFirst "refusal 1 is judged before 2" {
+    RangeFirst "refusal 1 is judged before 2" by scripts {
         fn refusal(unit: &Unit, cycle: &Cycle) -> Option<u8> {
             match Document01::out_of_range(cycle) {
                 true => Some(1),
@@ -77,7 +77,7 @@ wrong! { Step:
             }
         }
     }
-    CommandFirst "refusals 3 and 4 are judged before 2 and 1" {
+    CommandFirst "refusals 3 and 4 are judged before 2 and 1" by scripts {
         fn step(unit: &mut Unit, cycle: &Cycle) -> Answer {
             match command_refusal(cycle) {
                 Some(number) => Answer::quiet(Kind::Refused(number), unit.request),
@@ -85,7 +85,7 @@ wrong! { Step:
             }
         }
     }
-    DamageIsOne "a damaged unit is refused with 1" {
+    DamageIsOne "a damaged unit is refused with 1" by scripts {
         fn step(unit: &mut Unit, cycle: &Cycle) -> Answer {
             step_if_whole(unit, cycle, 1)
         }
@@ -131,23 +131,23 @@ wrong! { Step:
             narrow_step::<Self>(unit, cycle, |unit| unit.isn %= 64)
         }
     }
-    WideVsn "VSN above 127 is no damage" {
+    WideVsn "VSN above 127 is no damage" by scripts {
         fn damaged(unit: &Unit) -> bool {
             Document01::damaged(&Unit { vsn: 0, ..unit.clone() })
         }
     }
-    WideIsn "ISN above 127 is no damage" {
+    WideIsn "ISN above 127 is no damage" by scripts {
         fn damaged(unit: &Unit) -> bool {
             Document01::damaged(&Unit { isn: 0, ..unit.clone() })
         }
     }
-    VsnOneMore "VSN 128 is no damage" {
+    VsnOneMore "VSN 128 is no damage" by scripts {
         fn damaged(unit: &Unit) -> bool {
             let vsn = if unit.vsn == 128 { 0 } else { unit.vsn };
             Document01::damaged(&Unit { vsn, ..unit.clone() })
         }
     }
-    IsnOneMore "ISN 128 is no damage" {
+    IsnOneMore "ISN 128 is no damage" by scripts {
         fn damaged(unit: &Unit) -> bool {
             let isn = if unit.isn == 128 { 0 } else { unit.isn };
             Document01::damaged(&Unit { isn, ..unit.clone() })
@@ -173,7 +173,7 @@ wrong! { Step:
             (unit.isn > 63) != unit.mode(mode::URS) || Document01::damaged(unit)
         }
     }
-    SevenSar "SAR up to 127 is no damage, and is cut to six bits" {
+    SevenSar "SAR up to 127 is no damage, and is cut to six bits" by scripts {
         fn damaged(unit: &Unit) -> bool {
             Document01::damaged(&Unit { sar: unit.sar & 0xBF, ..unit.clone() })
         }
@@ -185,17 +185,17 @@ wrong! { Step:
             Document01::step(unit, cycle)
         }
     }
-    SevenBcsr "BCSR up to 127 is no damage" {
+    SevenBcsr "BCSR up to 127 is no damage" by scripts {
         fn damaged(unit: &Unit) -> bool {
             Document01::damaged(&Unit { bcsr: unit.bcsr & 0xBF, ..unit.clone() })
         }
     }
-    WideBcsr "BCSR above 63 is no damage" {
+    WideBcsr "BCSR above 63 is no damage" by scripts {
         fn damaged(unit: &Unit) -> bool {
             Document01::damaged(&Unit { bcsr: 0, ..unit.clone() })
         }
     }
-    WideDscr "DSCR above 3 is no damage" {
+    WideDscr "DSCR above 3 is no damage" by scripts {
         fn damaged(unit: &Unit) -> bool {
             Document01::damaged(&Unit { dscr: 0, ..unit.clone() })
         }
@@ -205,12 +205,12 @@ wrong! { Step:
             unit.sar > 62 || Document01::damaged(unit)
         }
     }
-    OrphanWhole "an orphan is no damage: the first row takes it" {
+    OrphanWhole "an orphan is no damage: the first row takes it" by scripts {
         fn orphan(_unit: &Unit) -> bool {
             false
         }
     }
-    OrphanSilent "an orphan is no damage, and its first entry does not request while FATL stands" {
+    OrphanSilent "an orphan is no damage, and its first entry does not request while FATL stands" by scripts {
         fn step(unit: &mut Unit, cycle: &Cycle) -> Answer {
             let silent = Document01::orphan(unit) && unit.vtr & violation::FATL != 0;
             let (request, awaits) = (unit.request, unit.awaits);
@@ -222,22 +222,22 @@ wrong! { Step:
             Answer { trap: request, ..answer }
         }
     }
-    OrphanOfFatl "only FATL alone makes an orphan" {
+    OrphanOfFatl "only FATL alone makes an orphan" by scripts {
         fn orphan(unit: &Unit) -> bool {
             unit.vtr == violation::FATL
         }
     }
-    OrphanOfSww "only SWW alone makes an orphan" {
+    OrphanOfSww "only SWW alone makes an orphan" by scripts {
         fn orphan(unit: &Unit) -> bool {
             unit.vtr == violation::SWW
         }
     }
-    OrphanOfBoth "only SWW and FATL together make an orphan" {
+    OrphanOfBoth "only SWW and FATL together make an orphan" by scripts {
         fn orphan(unit: &Unit) -> bool {
             unit.vtr == violation::SWW | violation::FATL
         }
     }
-    OrphanOfEither "SWW or FATL makes an orphan, but not both" {
+    OrphanOfEither "SWW or FATL makes an orphan, but not both" by scripts {
         fn orphan(unit: &Unit) -> bool {
             matches!(unit.vtr, violation::SWW | violation::FATL)
         }
@@ -257,65 +257,65 @@ wrong! { Step:
             unit.vtr & violation::PRIMARY == 0
         }
     }
-    OrphanReset "the reset line mends an orphan" {
+    OrphanReset "the reset line mends an orphan" by scripts {
         fn refusal(unit: &Unit, cycle: &Cycle) -> Option<u8> {
             refusal(unit, cycle, cycle.reset)
         }
     }
-    OrphanSoftwareReset "a software reset mends an orphan" {
+    OrphanSoftwareReset "a software reset mends an orphan" by scripts {
         fn refusal(unit: &Unit, cycle: &Cycle) -> Option<u8> {
             refusal(unit, cycle, writes(cycle, &[code::RESET]))
         }
     }
-    OrphanClearVtr "clear VTR mends an orphan" {
+    OrphanClearVtr "clear VTR mends an orphan" by scripts {
         fn refusal(unit: &Unit, cycle: &Cycle) -> Option<u8> {
             refusal(unit, cycle, writes(cycle, &[code::CLEAR_VTR]))
         }
     }
-    OrphanClearFlag "clear SWW and clear FATL are obeyed by an orphan" {
+    OrphanClearFlag "clear SWW and clear FATL are obeyed by an orphan" by scripts {
         fn refusal(unit: &Unit, cycle: &Cycle) -> Option<u8> {
             refusal(unit, cycle, writes(cycle, &[code::CLEAR_SWW, code::CLEAR_FATL]))
         }
     }
-    OrphanAcknowledges "an orphan acknowledges" {
+    OrphanAcknowledges "an orphan acknowledges" by scripts {
         fn refusal(unit: &Unit, cycle: &Cycle) -> Option<u8> {
             refusal(unit, cycle, class(*cycle) == Class::Acknowledge)
         }
     }
-    OrphanReads "an orphan's registers can be read" {
+    OrphanReads "an orphan's registers can be read" by scripts {
         fn refusal(unit: &Unit, cycle: &Cycle) -> Option<u8> {
             refusal(unit, cycle, class(*cycle) == Class::Command && cycle.read)
         }
     }
-    OrphanDma "an orphan translates for DMA" {
+    OrphanDma "an orphan translates for DMA" by scripts {
         fn refusal(unit: &Unit, cycle: &Cycle) -> Option<u8> {
             refusal(unit, cycle, class(*cycle) == Class::Memory && cycle.dma)
         }
     }
-    OrphanUnrecorded "an orphan is refused only where it would record" {
+    OrphanUnrecorded "an orphan is refused only where it would record" by scripts {
         fn refusal(unit: &Unit, cycle: &Cycle) -> Option<u8> {
             let memory = class(*cycle) == Class::Memory;
             let records = memory && (violates(unit, cycle) || warns(unit, cycle));
             refusal(unit, cycle, !records)
         }
     }
-    OrphanRangeFirst "refusal 1 comes before an orphan's 2" {
+    OrphanRangeFirst "refusal 1 comes before an orphan's 2" by scripts {
         fn refusal(unit: &Unit, cycle: &Cycle) -> Option<u8> {
             refusal(unit, cycle, Document01::out_of_range(cycle))
         }
     }
-    OrphanCommandFirst "refusals 3 and 4 come before an orphan's 2" {
+    OrphanCommandFirst "refusals 3 and 4 come before an orphan's 2" by scripts {
         fn refusal(unit: &Unit, cycle: &Cycle) -> Option<u8> {
             refusal(unit, cycle, command_refusal(cycle).is_some())
         }
     }
-    OrphanDropsTrap "an orphan's refusal shows the trap line off" {
+    OrphanDropsTrap "an orphan's refusal shows the trap line off" by scripts {
         fn step(unit: &mut Unit, cycle: &Cycle) -> Answer {
             let answer = Document01::step(unit, cycle);
             Answer { trap: answer.trap && !Document01::orphan(unit), ..answer }
         }
     }
-    OrphanCleared "an orphan's refusal clears the VTR" {
+    OrphanCleared "an orphan's refusal clears the VTR" by scripts {
         fn step(unit: &mut Unit, cycle: &Cycle) -> Answer {
             let answer = Document01::step(unit, cycle);
             if Document01::orphan(unit) {
@@ -324,22 +324,22 @@ wrong! { Step:
             answer
         }
     }
-    ResetAnyRange "a reset cycle is never refused 1" {
+    ResetAnyRange "a reset cycle is never refused 1" by scripts {
         fn out_of_range(cycle: &Cycle) -> bool {
             !cycle.reset && Document01::out_of_range(cycle)
         }
     }
-    IgnoredAnyRange "segment above 127 is refused in memory cycles only" {
+    IgnoredAnyRange "segment above 127 is refused in memory cycles only" by scripts {
         fn out_of_range(cycle: &Cycle) -> bool {
             cycle.status > 15 || cycle.segment > 127 && class(*cycle) == Class::Memory
         }
     }
-    StatusCut "status above 15 is cut to four bits" {
+    StatusCut "status above 15 is cut to four bits" by scripts {
         fn step(unit: &mut Unit, cycle: &Cycle) -> Answer {
             Document01::step(unit, &Cycle { status: cycle.status % 16, ..*cycle })
         }
     }
-    SegmentCut "segment above 127 is cut to seven bits" {
+    SegmentCut "segment above 127 is cut to seven bits" by scripts {
         fn step(unit: &mut Unit, cycle: &Cycle) -> Answer {
             Document01::step(unit, &Cycle { segment: cycle.segment % 128, ..*cycle })
         }
@@ -360,7 +360,7 @@ wrong! { Step:
             answer
         }
     }
-    RefusalHeld "a refused memory cycle is suppressed while hold stands" {
+    RefusalHeld "a refused memory cycle is suppressed while hold stands" by scripts {
         fn step(unit: &mut Unit, cycle: &Cycle) -> Answer {
             let answer = Document01::step(unit, cycle);
             let memory = matches!(cycle.status, 0x8..=0xD) && !cycle.dma && !cycle.reset;
@@ -703,23 +703,23 @@ wrong! { Step:
             Document01::step(&mut unit.clone(), cycle)
         }
     }
-    LowOutOfRange "a low byte above 127 is refused 1" {
+    LowOutOfRange "a low byte above 127 is refused 1" by scripts {
         fn out_of_range(cycle: &Cycle) -> bool {
             cycle.low > 127 || Document01::out_of_range(cycle)
         }
     }
-    LowDamaged "a kept low byte above 127 is damage" {
+    LowDamaged "a kept low byte above 127 is damage" by scripts {
         fn damaged(unit: &Unit) -> bool {
             unit.low > 127 || Document01::damaged(unit)
         }
     }
-    ResetClearsLow "a reset clears the low byte" {
+    ResetClearsLow "a reset clears the low byte" by scripts {
         fn reset(unit: &mut Unit, cycle: &Cycle) {
             Document01::reset(unit, cycle);
             unit.low = 0;
         }
     }
-    SelectedResetClearsLow "a selected reset clears the low byte" {
+    SelectedResetClearsLow "a selected reset clears the low byte" by scripts {
         fn reset(unit: &mut Unit, cycle: &Cycle) {
             Document01::reset(unit, cycle);
             if cycle.select {
@@ -727,19 +727,19 @@ wrong! { Step:
             }
         }
     }
-    AcknowledgeClearsLow "an acknowledge clears the low byte" {
+    AcknowledgeClearsLow "an acknowledge clears the low byte" by scripts {
         fn acknowledge(unit: &mut Unit, cycle: &Cycle) -> Option<u8> {
             unit.low = 0;
             Document01::acknowledge(unit, cycle)
         }
     }
-    LowOfEveryCycle "every cycle stores the low byte" {
+    LowOfEveryCycle "every cycle stores the low byte" by scripts {
         fn step(unit: &mut Unit, cycle: &Cycle) -> Answer {
             unit.low = cycle.low;
             Document01::step(unit, cycle)
         }
     }
-    LowOfRefused "a refused cycle stores the low byte" {
+    LowOfRefused "a refused cycle stores the low byte" by scripts {
         fn step(unit: &mut Unit, cycle: &Cycle) -> Answer {
             let answer = Document01::step(unit, cycle);
             if matches!(answer.kind, Kind::Refused(_)) {
@@ -748,7 +748,7 @@ wrong! { Step:
             answer
         }
     }
-    LowWithSup "every cycle with SUP on stores the low byte" {
+    LowWithSup "every cycle with SUP on stores the low byte" by scripts {
         fn step(unit: &mut Unit, cycle: &Cycle) -> Answer {
             let answer = Document01::step(unit, cycle);
             if answer.sup {
@@ -757,7 +757,7 @@ wrong! { Step:
             answer
         }
     }
-    LowWithTrapLine "the low byte is stored as the trap line rises, and else not" {
+    LowWithTrapLine "the low byte is stored as the trap line rises, and else not" by scripts {
         fn step(unit: &mut Unit, cycle: &Cycle) -> Answer {
             let (request, low) = (unit.request, unit.low);
             let answer = Document01::step(unit, cycle);
@@ -793,12 +793,12 @@ wrong! { Step:
             }
         }
     }
-    DistanceOfRange "a cycle with a number out of range carries a distance" {
+    DistanceOfRange "a cycle with a number out of range carries a distance" by scripts {
         fn step(unit: &mut Unit, cycle: &Cycle) -> Answer {
             carried_by(unit, cycle, |kind| kind == Kind::Refused(1))
         }
     }
-    DistanceOfDamaged "a damaged unit's refusal carries a distance" {
+    DistanceOfDamaged "a damaged unit's refusal carries a distance" by scripts {
         fn step(unit: &mut Unit, cycle: &Cycle) -> Answer {
             carried_by(unit, cycle, |kind| kind == Kind::Refused(2))
         }

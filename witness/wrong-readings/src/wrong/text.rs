@@ -70,7 +70,7 @@ wrong! { Text:
             Unit { mr: mode::MSEN | mode::TRNS, ..Unit::power_on() }
         }
     }
-    PowerOnLow "power-on has all bits of the low byte set" {
+    PowerOnLow "power-on has all bits of the low byte set" by scripts {
         fn power_on() -> Unit {
             Unit { low: 0xFF, ..Unit::power_on() }
         }

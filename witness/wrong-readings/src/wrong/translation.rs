@@ -136,12 +136,12 @@ wrong! { Translation:
             }
         }
     }
-    LowCarries "a low byte of 255 carries into the sum" {
+    LowCarries "a low byte of 255 carries into the sum" by scripts {
         fn physical(unit: &Unit, cycle: &Cycle) -> u16 {
             Document01::physical(unit, cycle).wrapping_add(u16::from(cycle.low == 0xFF))
         }
     }
-    LowRounds "a low byte above 127 rounds the sum up" {
+    LowRounds "a low byte above 127 rounds the sum up" by scripts {
         fn physical(unit: &Unit, cycle: &Cycle) -> u16 {
             Document01::physical(unit, cycle).wrapping_add(u16::from(cycle.low > 0x7F))
         }
