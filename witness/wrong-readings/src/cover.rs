@@ -10,7 +10,7 @@ use crate::capture::{Capture, Place, Places, Reading, HEAD, RECORD};
 use crate::judged::CAPTURES;
 
 /// A generated capture with more records is none to be read.
-const SHORT: usize = 300;
+pub const SHORT: usize = 300;
 /// What a capture costs beside four bytes for each record. Of the costs tried,
 /// 100 to 800, this one gave the fewest records; 100 gives half as many captures
 /// again.

@@ -4,13 +4,14 @@ use std::fs;
 use std::io;
 use std::path::Path;
 
-use crate::capture::{Capture, Place, Places, Reading};
+use crate::capture::{Capture, Place, Places, Reading, HEAD, RECORD};
+use crate::cover::SHORT;
 use crate::judged::CAPTURES;
 use crate::SEED;
 
 /// The traits of the witness that captures tell of, in the words of its rules.
 const AREAS: [(&str, &str); 8] = [
-    ("Step", "what a cycle is, reset, acknowledge"),
+    ("Step", "kinds of cycle, reset, acknowledge"),
     ("Commands", "commands"),
     ("Translation", "translation"),
     ("Checks", "rights, length, distance"),
@@ -81,7 +82,7 @@ impl Part<'_> {
             .iter()
             .filter(|(reading, _)| of_it(reading))
             .count();
-        (count > 0).then(|| format!("{words} {count}"))
+        (count > 0).then(|| format!("{count} {words}"))
     }
 }
 
@@ -98,8 +99,8 @@ pub fn page(set: &Set, readings: &[Reading]) -> Result<String, String> {
         page += &row(name, capture, part);
     }
     page += "\n## What each is chosen for\n";
-    for ((name, _), part) in set.iter().zip(&parts) {
-        page += &section(name, part);
+    for ((name, capture), part) in set.iter().zip(&parts) {
+        page += &section(name, capture, part);
     }
     Ok(page)
 }
@@ -146,13 +147,32 @@ fn row(name: &str, capture: &Capture, part: &Part) -> String {
     )
 }
 
-fn section(name: &str, part: &Part) -> String {
+fn section(name: &str, capture: &Capture, part: &Part) -> String {
     let rows = part.chosen_for.iter().map(|(reading, places)| {
         let [line, pins] = [places.line, places.pins].map(place);
         format!("| {line} | {pins} | {} |\n", reading.wrong.says)
     });
-    let rows: String = rows.collect();
-    format!("\n### `{name}`\n\n| Line | Pins | Read wrongly |\n|---|---|---|\n{rows}")
+    let (shown, rows) = (shown(capture), rows.collect::<String>());
+    format!("\n### `{name}`\n{shown}\n| Line | Pins | Read wrongly |\n|---|---|---|\n{rows}")
+}
+
+/// Each line of the listing behind the bytes of its record, or of the refused
+/// trace; nothing of the longest capture.
+fn shown(capture: &Capture) -> String {
+    let (bytes, skipped, size) = match capture.refused() {
+        true => (&capture.trace[..], 0, capture.trace.len().max(1)),
+        false => (&capture.trace[HEAD..], 1, RECORD),
+    };
+    if bytes.is_empty() || capture.records() > SHORT {
+        return String::new();
+    }
+    let text = String::from_utf8_lossy(capture.right());
+    let records = bytes.chunks(size).zip(text.lines().skip(skipped));
+    let lines = records.map(|(record, line)| {
+        let bytes: Vec<String> = record.iter().map(|byte| format!("{byte:02X}")).collect();
+        format!("    {}  {line}\n", bytes.join(" "))
+    });
+    format!("\n{}", lines.collect::<String>())
 }
 
 fn place(place: Option<Place>) -> String {
@@ -171,15 +191,15 @@ fn head(readings: usize, on_pins: usize) -> String {
 
 Captures (`NAME.mbt`) and what `mmurun` prints for each (`NAME.txt`): few and short, and chosen so that each of the {readings} wrong \
 readings of document 01 that a capture can tell is told by one of them. Logic that prints these listings has none of these \
-mistakes. `docs/WRONG-READINGS.md` says what a wrong reading is and counts them by rule; which ones no capture can tell is said \
-there too.
+mistakes. `docs/WRONG-READINGS.md` says what a wrong reading is, counts them by rule, and says why no capture can tell the others.
 
 Run your own logic on each capture and compare its listing with ours. The tables below say where a wrong reading first differs: \
 the number of the record by whole lines, and by the pins alone, which are address, SUP, trap line and data byte. {on_pins} of the \
 wrong readings can show on the pins, and each of these is told there, so that logic without kind and distance is told as well; the \
 other {others} show in kind or distance alone, or in which traces are refused, or are of how a listing is made. `first` is the first \
-line, `end` the end of the listing, and `-` stands where the pins do not differ. What differs first in your listing need not be your \
-mistake alone: a capture tells many more wrong readings than it is chosen for.
+line, `end` the end of the listing, and `-` stands where the pins do not differ. Your mistake may be \
+another than those named beside a record: a capture tells many more wrong readings than it is chosen for. Before each table stand the \
+capture's records, four bytes each, and what `mmurun` prints for them.
 
 The captures are generated ones (the first {CAPTURES} of seed {SEED}), each cut behind what it is chosen for and without every record that \
 is not needed for it. So they are no programs, and their bytes are any bytes. The last one is not to be read: it has the most records \
@@ -189,7 +209,7 @@ that a trace can have, all of an idle bus. `sh tools/golden FOLDER` writes whole
 holds the captures to this page, and fails where one of the wrong readings is not told. `tools/samples` holds `mmurun` to the \
 listings, and `tools/compare` the second model.
 
-| Capture | Records | Chosen for wrong readings of | Together | Tells in all |
+| Capture | Records | Chosen for so many wrong readings of | Together | Tells in all |
 |---|---|---|---|---|
 "
     )
