@@ -191,21 +191,22 @@ fn head(readings: usize, on_pins: usize) -> String {
 
 Captures (`NAME.mbt`) and what `mmurun` prints for each (`NAME.txt`): few and short, and chosen so that each of the {readings} wrong \
 readings of document 01 that a capture can tell is told by one of them. Logic that prints these listings has none of these \
-mistakes. `docs/WRONG-READINGS.md` says what a wrong reading is, counts them by rule, and says why no capture can tell the others.
+mistakes. [docs/WRONG-READINGS.md](../../docs/WRONG-READINGS.md) says what a wrong reading is, counts them by rule, and says why no capture \
+can tell the others.
 
-Run your own logic on each capture and compare its listing with ours. The tables below say where a wrong reading first differs: \
+Run your own logic on each capture and compare its listing with ours (`./distantarm against`). The tables below say where a wrong reading first differs: \
 the number of the record by whole lines, and by the pins alone, which are address, SUP, trap line and data byte. {on_pins} of the \
 wrong readings can show on the pins, and each of these is told there, so that logic without kind and distance is told as well; the \
 other {others} show in kind or distance alone, or in which traces are refused, or are of how a listing is made. `first` is the first \
-line, `end` the end of the listing, and `-` stands where the pins do not differ. Your mistake may be \
-another than those named beside a record: a capture tells many more wrong readings than it is chosen for. Before each table stand the \
+line, `end` the end of the listing, and `-` stands where the pins do not differ, and for all that is of how a listing is made. Your \
+mistake may be another than those named beside a record: a capture tells many more wrong readings than it is chosen for. Before each table stand the \
 capture's records, four bytes each, and what `mmurun` prints for them.
 
 The captures are generated ones (the first {CAPTURES} of seed {SEED}), each cut behind what it is chosen for and without every record that \
 is not needed for it. So they are no programs, and their bytes are any bytes. The last one is not to be read: it has the most records \
-that a trace can have, all of an idle bus. `sh tools/golden FOLDER` writes whole ones, 300 of them, for a wider net.
+that a trace can have, all of an idle bus. `./distantarm golden FOLDER` writes whole ones, 300 of them, for a wider net.
 
-`sh tools/wrong-readings cover` chooses this set anew and writes this folder, the same each time. `sh tools/wrong-readings golden` \
+`./distantarm wrong-readings cover` chooses this set anew and writes this folder, the same each time. `./distantarm wrong-readings golden` \
 holds the captures to this page, and fails where one of the wrong readings is not told. `tools/samples` holds `mmurun` to the \
 listings, and `tools/compare` the second model.
 

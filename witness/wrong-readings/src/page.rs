@@ -238,14 +238,14 @@ a damaged unit (an orphan is one), a number out of range, own without await or a
 the kept low byte; {boards}, of a board, by board scripts, since nothing else has one; {same} cannot be told, because they \
 come out the same. The first {COMPARED} captures and all scripts go through the proved programs in \
 `tools/compare`, and these alone tell every wrong reading that can be told: the {COMPARED} captures tell all {captures}. \
-`sh tools/golden FOLDER` writes those captures with their listings. The golden set, `samples/golden/`, tells the {captures} too, with \
+`./distantarm golden FOLDER` writes those captures with their listings. [The golden set](../samples/golden/README.md) tells the {captures} too, with \
 few and short captures, and names them.
 
-    sh tools/wrong-readings
+    ./distantarm wrong-readings
 
-holds this page to the wrong readings, and fails where one is not told. `sh tools/wrong-readings renew` writes the page \
-anew, and `sh tools/wrong-readings list` prints every wrong reading by name, with how many captures and cases of scripts \
-tell it. `sh tools/wrong-readings golden` holds the golden set to what it must tell, and `sh tools/wrong-readings cover` \
+holds this page to the wrong readings, and fails where one is not told. `./distantarm wrong-readings renew` writes the page \
+anew, and `./distantarm wrong-readings list` prints every wrong reading by name, with how many captures and cases of scripts \
+tell it. `./distantarm wrong-readings golden` holds the golden set to what it must tell, and `./distantarm wrong-readings cover` \
 chooses it anew. Of all these only `golden` is a part of `tools/test`.
 
 Each row is a rule, with its name in the witness; then how many wrong readings of it there are; how many of them \
