@@ -197,13 +197,13 @@ can tell the others.
 Run your own logic on each capture and compare its listing with ours (`./distantarm against`). The tables below say where a wrong reading first differs: \
 the number of the record by whole lines, and by the pins alone, which are address, SUP, trap line and data byte. {on_pins} of the \
 wrong readings can show on the pins, and each of these is told there, so that logic without kind and distance is told as well; the \
-other {others} show in kind or distance alone, or in which traces are refused, or are of how a listing is made. `first` is the first \
-line, `end` the end of the listing, and `-` stands where the pins do not differ, and for all that is of how a listing is made. Your \
-mistake may be another than those named beside a record: a capture tells many more wrong readings than it is chosen for. Before each table stand the \
+other {others} show in kind or distance alone, or in which traces are refused, or are of how a run and its listing are made. `first` is \
+the first line, `end` the end of the listing, and `-` stands where the pins do not differ; for what is of a run and its listing they are \
+not asked, though three of these show there in the same record. Your mistake may be another than those named beside a record: a capture tells many more wrong readings than it is chosen for. Before each table stand the \
 capture's records, four bytes each, and what `mmurun` prints for them.
 
-The captures are generated ones (the first {CAPTURES} of seed {SEED}), each cut behind what it is chosen for and without every record that \
-is not needed for it. So they are no programs, and their bytes are any bytes. The last one is not to be read: it has the most records \
+All captures but the last are generated ones (the first {CAPTURES} of seed {SEED}), each cut behind what it is chosen for and without every record that \
+is not needed for it. So they are no programs, and their bytes are any bytes. The last is not to be read: it has the most records \
 that a trace can have, all of an idle bus. `./distantarm golden FOLDER` writes whole ones, 300 of them, for a wider net.
 
 `./distantarm wrong-readings cover` chooses this set anew and writes this folder, the same each time. `./distantarm wrong-readings golden` \
