@@ -40,7 +40,8 @@ take() { # TAKES WHAT ARGUMENTS..: what it takes, as the usage has it and in wor
     -h | --help) explain && exit 0 ;;
     --) shift ;;
     esac
-    command="sh tools/$name"
+    command="./distantarm $name"
+    [ "$name" != mmurun ] || command="./distantarm run"
     [ -z "$release" ] || command=$name
     [ $# -le 1 ] || { echo "usage: $command [$takes | -]" >&2; exit 2; }
     if [ $# -eq 0 ] || [ "$1" = - ]; then return; fi
