@@ -387,11 +387,6 @@ wrong! { Step:
             }
         }
     }
-    ResetNeedsCpu "the reset line counts in CPU cycles only" {
-        fn class(cycle: &Cycle) -> Class {
-            class(Cycle { reset: cycle.reset && !cycle.dma, ..*cycle })
-        }
-    }
     DmaAcknowledges "a DMA cycle at status 4 acknowledges" {
         fn class(cycle: &Cycle) -> Class {
             class(Cycle { dma: cycle.dma && cycle.status != 0x4, ..*cycle })

@@ -10,7 +10,13 @@ use witness::Document01;
 fn without<B: Bits>(descriptor: &Descriptor, cycle: &Cycle) -> (Descriptor, Cycle) {
     let limit = descriptor.limit & !B::MASK;
     let offset = cycle.offset & !B::MASK;
-    (Descriptor { limit, ..*descriptor }, Cycle { offset, ..*cycle })
+    (
+        Descriptor {
+            limit,
+            ..*descriptor
+        },
+        Cycle { offset, ..*cycle },
+    )
 }
 
 families! { Checks:

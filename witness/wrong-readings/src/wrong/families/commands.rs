@@ -9,7 +9,10 @@ use witness::Document01;
 
 /// The cycle with another code.
 fn coded(cycle: &Cycle, code: fn(u8) -> u8) -> Cycle {
-    Cycle { offset: code(cycle.offset), ..*cycle }
+    Cycle {
+        offset: code(cycle.offset),
+        ..*cycle
+    }
 }
 
 /// A code that is not listed, with this bit turned round.
@@ -23,7 +26,11 @@ fn turned<B: Bits>(code: u8) -> u8 {
 /// A code that is not listed as its neighbour.
 fn listed<N: Neighbours>(code: u8) -> u8 {
     let (unlisted, neighbour) = N::CODES;
-    if code == unlisted { neighbour } else { code }
+    if code == unlisted {
+        neighbour
+    } else {
+        code
+    }
 }
 
 /// A write of a register that clears another one too, if it has this code.

@@ -41,6 +41,20 @@ families! { Step:
             }
         }
     }
+    ResetNot<C: Cycles> "the reset line is not seen"
+    [Reads Writes NormalMode SystemMode ForCpu ForDma] {
+        fn class(cycle: &Cycle) -> Class {
+            let reset = cycle.reset && !(C::HAS)(cycle);
+            Document01::class(&Cycle { reset, ..*cycle })
+        }
+    }
+    ResetUnselected<C: Cycles> "a reset does not see select"
+    [Reads Writes NormalMode SystemMode ForCpu ForDma] {
+        fn reset(unit: &mut Unit, cycle: &Cycle) {
+            let select = cycle.select && !(C::HAS)(cycle);
+            Document01::reset(unit, &Cycle { select, ..*cycle });
+        }
+    }
     ResetClears<R: Registers> "a reset clears" [Sar Vsn Voff Bcsr Isn Ioff] {
         fn reset(unit: &mut Unit, cycle: &Cycle) {
             Document01::reset(unit, cycle);
