@@ -97,15 +97,17 @@ impl Bus {
         }
     }
 
-    /// An offset at or beside the segment's limit, or at an end.
+    /// An offset at or beside the segment's limit, or a bit away from it, or at an
+    /// end.
     pub fn offset(&mut self, segment: u8) -> u8 {
         let limit = self.unit.table[usize::from(segment % 64)].limit;
         let random = self.random.byte();
         let near = [limit, limit.wrapping_add(1), limit.wrapping_sub(1)];
-        match self.random.below(10) {
+        match self.random.below(11) {
             0..=6 => self.random.pick(&near),
-            7 => 0,
-            8 => 0xFF,
+            7 => limit ^ 1 << self.random.below(8),
+            8 => 0,
+            9 => 0xFF,
             _ => random,
         }
     }

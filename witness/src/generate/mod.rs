@@ -3,6 +3,7 @@
 pub mod board_mixes;
 pub mod boards;
 pub mod bus;
+pub mod decoding;
 pub mod edge;
 pub mod low;
 pub mod malformed;

@@ -3,6 +3,7 @@
 use crate::cycle::Cycle;
 
 use super::bus::Bus;
+use super::decoding::{clears_in_flight, codes_beside, every_status};
 use super::edge::approach;
 use super::programming::{
     every_command, inhibit_all, not_for_the_unit, ragged, reset, setup, software_reset,
@@ -12,7 +13,7 @@ use super::random::Random;
 use super::scenes::{chaos, dma, fault, faults_in_service, without_translation, work};
 
 /// A scene stands here as often as it should come.
-const SCENES: [fn(&mut Bus); 25] = [
+const SCENES: [fn(&mut Bus); 28] = [
     work,
     work,
     approach,
@@ -35,6 +36,9 @@ const SCENES: [fn(&mut Bus); 25] = [
     not_for_the_unit,
     every_command,
     inhibit_all,
+    every_status,
+    codes_beside,
+    clears_in_flight,
     chaos,
     reset,
     software_reset,

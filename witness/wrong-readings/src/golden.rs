@@ -204,7 +204,8 @@ capture's records, four bytes each, and what `mmurun` prints for them.
 
 All captures but the last are generated ones (the first {CAPTURES} of seed {SEED}), each cut behind what it is chosen for and without every record that \
 is not needed for it. So they are no programs, and their bytes are any bytes. The last is not to be read: it has the most records \
-that a trace can have, all of an idle bus. `./distantarm golden FOLDER` writes whole ones, 300 of them, for a wider net.
+that a trace can have, all of an idle bus. A mistake that shows only where two things meet, such as a right that is not checked at one status in \
+one mode, may pass this set: `./distantarm golden FOLDER` writes whole captures, 300 of them, for a wider net.
 
 `./distantarm wrong-readings cover` chooses this set anew and writes this folder, the same each time. `./distantarm wrong-readings golden` \
 holds the captures to this page, and fails where one of the wrong readings is not told. `tools/samples` holds `mmurun` to the \

@@ -85,14 +85,14 @@ wrong! { Checks:
             cycle.offset > descriptor.limit
         }
     }
-    DmaAnyLength "the length check is not made for DMA" {
+    LimitZeroOpen "a limit of 0 is no limit" {
         fn outside(descriptor: &Descriptor, cycle: &Cycle) -> bool {
-            !cycle.dma && Document01::outside(descriptor, cycle)
+            descriptor.limit != 0 && Document01::outside(descriptor, cycle)
         }
     }
-    FetchAnyLength "the length check is not made for instruction fetches" {
+    LimitTopOpen "a limit of %FF is no limit, downward too" {
         fn outside(descriptor: &Descriptor, cycle: &Cycle) -> bool {
-            cycle.status != 0xD && Document01::outside(descriptor, cycle)
+            descriptor.limit != 0xFF && Document01::outside(descriptor, cycle)
         }
     }
     WarnsAtTop "the warning block of a stack is at the top" {
@@ -116,11 +116,6 @@ wrong! { Checks:
         fn warns(descriptor: &Descriptor, cycle: &Cycle) -> bool {
             let attributes = descriptor.attributes | attribute::DIRW;
             Document01::warns(&Descriptor { attributes, ..*descriptor }, cycle)
-        }
-    }
-    WarnsInSystem "only system mode warns" {
-        fn warns(descriptor: &Descriptor, cycle: &Cycle) -> bool {
-            !cycle.normal && Document01::warns(descriptor, cycle)
         }
     }
     WarnsAtStackStatus "only status %9 and %B warn" {
@@ -167,24 +162,9 @@ wrong! { Checks:
             Document01::read_only(descriptor, &Cycle { read: !cycle.read, ..*cycle })
         }
     }
-    ReadOnlyNotDma "RD does not bind DMA" {
-        fn read_only(descriptor: &Descriptor, cycle: &Cycle) -> bool {
-            !cycle.dma && Document01::read_only(descriptor, cycle)
-        }
-    }
-    ReadOnlyNotSystem "RD does not bind system mode" {
-        fn read_only(descriptor: &Descriptor, cycle: &Cycle) -> bool {
-            cycle.normal && Document01::read_only(descriptor, cycle)
-        }
-    }
     SystemReversed "SYS forbids system mode" {
         fn system_only(descriptor: &Descriptor, cycle: &Cycle) -> bool {
             Document01::system_only(descriptor, &Cycle { normal: !cycle.normal, ..*cycle })
-        }
-    }
-    SystemNotDma "SYS does not bind DMA" {
-        fn system_only(descriptor: &Descriptor, cycle: &Cycle) -> bool {
-            !cycle.dma && Document01::system_only(descriptor, cycle)
         }
     }
     ExecuteFirstWord "EXC allows status %D alone" {
@@ -203,11 +183,6 @@ wrong! { Checks:
             writes || Document01::execute_only(descriptor, cycle)
         }
     }
-    ExecuteNotDma "EXC does not bind DMA" {
-        fn execute_only(descriptor: &Descriptor, cycle: &Cycle) -> bool {
-            !cycle.dma && Document01::execute_only(descriptor, cycle)
-        }
-    }
     ExecuteReversed "EXC forbids execution" {
         fn execute_only(descriptor: &Descriptor, cycle: &Cycle) -> bool {
             descriptor.has(attribute::EXC) && matches!(cycle.status, 0xC | 0xD)
@@ -216,11 +191,6 @@ wrong! { Checks:
     CpuInhibitsAll "CPUI stops DMA as well" {
         fn cpu_inhibited(descriptor: &Descriptor, _cycle: &Cycle) -> bool {
             descriptor.has(attribute::CPUI)
-        }
-    }
-    CpuInhibitNotSystem "CPUI does not bind system mode" {
-        fn cpu_inhibited(descriptor: &Descriptor, cycle: &Cycle) -> bool {
-            cycle.normal && Document01::cpu_inhibited(descriptor, cycle)
         }
     }
     DmaInhibitsAll "DMAI stops the CPU as well" {

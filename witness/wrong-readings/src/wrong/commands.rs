@@ -1,5 +1,7 @@
 //! Wrong readings of the commands.
 
+use std::ops::Range;
+
 use super::wrong;
 use witness::commands::{code, Commands, Listing};
 use witness::cycle::Cycle;
@@ -18,6 +20,13 @@ fn clear_vtr_and(unit: &mut Unit, code: u8, data: u8, more: impl Fn(&mut Unit)) 
 fn clear_vtr_but(unit: &mut Unit, code: u8, data: u8, flags: u8) {
     let kept = unit.vtr & flags;
     clear_vtr_and(unit, code, data, |unit| unit.vtr = kept);
+}
+
+/// Sets a flag in some descriptors.
+fn set_some(unit: &mut Unit, flag: u8, entries: Range<usize>) {
+    for descriptor in &mut unit.table[entries] {
+        descriptor.attributes |= flag;
+    }
 }
 
 /// The listing with this code as one that can be read and not written.
@@ -148,24 +157,18 @@ wrong! { Commands:
             }
         }
     }
+    DscrKeepsOne "DSCR keeps one bit" {
+        fn write_register(unit: &mut Unit, code: u8, data: u8) {
+            Document01::write_register(unit, code, data);
+            if code == code::DSCR {
+                unit.dscr = data & 1;
+            }
+        }
+    }
     SoftwareResetLikeHardware "software reset leaves MR %80, as a reset with select on" {
         fn software_reset(unit: &mut Unit) {
             Document01::software_reset(unit);
             unit.mr = mode::MSEN;
-        }
-    }
-    SoftwareResetLeavesMr "software reset leaves MR" {
-        fn software_reset(unit: &mut Unit) {
-            let mr = unit.mr;
-            Document01::software_reset(unit);
-            unit.mr = mr;
-        }
-    }
-    SoftwareResetLeavesVtr "software reset leaves the VTR" {
-        fn software_reset(unit: &mut Unit) {
-            let vtr = unit.vtr;
-            Document01::software_reset(unit);
-            unit.vtr = vtr;
         }
     }
     SoftwareResetLeavesOrphan "software reset leaves SWW and FATL" {
@@ -175,31 +178,11 @@ wrong! { Commands:
             unit.vtr = kept;
         }
     }
-    SoftwareResetLeavesDscr "software reset leaves DSCR" {
-        fn software_reset(unit: &mut Unit) {
-            let dscr = unit.dscr;
-            Document01::software_reset(unit);
-            unit.dscr = dscr;
-        }
-    }
     SoftwareResetLeavesRequest "software reset leaves request and await" {
         fn software_reset(unit: &mut Unit) {
             let (request, awaits) = (unit.request, unit.awaits);
             Document01::software_reset(unit);
             (unit.request, unit.awaits) = (request, awaits);
-        }
-    }
-    SoftwareResetLeavesHold "software reset leaves hold" {
-        fn software_reset(unit: &mut Unit) {
-            let hold = unit.hold;
-            Document01::software_reset(unit);
-            unit.hold = hold;
-        }
-    }
-    SoftwareResetClearsSar "software reset clears SAR" {
-        fn software_reset(unit: &mut Unit) {
-            Document01::software_reset(unit);
-            unit.sar = 0;
         }
     }
     SoftwareResetClearsRange "software reset clears bit 6 of VSN and ISN, as it clears URS" {
@@ -213,24 +196,9 @@ wrong! { Commands:
             clear_vtr_and(unit, code, data, |unit| unit.vsn %= 64);
         }
     }
-    ClearVtrRequest "clear VTR takes the request back" {
-        fn write_register(unit: &mut Unit, code: u8, data: u8) {
-            clear_vtr_and(unit, code, data, |unit| unit.request = false);
-        }
-    }
-    ClearVtrAwait "clear VTR calls the aborted fetch off" {
-        fn write_register(unit: &mut Unit, code: u8, data: u8) {
-            clear_vtr_and(unit, code, data, |unit| unit.awaits = false);
-        }
-    }
     ClearVtrOwn "clear VTR clears own" by scripts {
         fn write_register(unit: &mut Unit, code: u8, data: u8) {
             clear_vtr_and(unit, code, data, |unit| unit.own = false);
-        }
-    }
-    ClearVtrHold "clear VTR clears hold" {
-        fn write_register(unit: &mut Unit, code: u8, data: u8) {
-            clear_vtr_and(unit, code, data, |unit| unit.hold = false);
         }
     }
     ClearVtrPrimary "clear VTR leaves SWW and FATL" {
@@ -253,22 +221,6 @@ wrong! { Commands:
             Document01::write_register(unit, code, data);
             if code == code::CLEAR_SWW {
                 unit.vtr &= !violation::PWW;
-            }
-        }
-    }
-    ClearSwwRequest "clear SWW takes the request back" {
-        fn write_register(unit: &mut Unit, code: u8, data: u8) {
-            Document01::write_register(unit, code, data);
-            if code == code::CLEAR_SWW {
-                unit.request = false;
-            }
-        }
-    }
-    ClearFatlRequest "clear FATL takes the request back" {
-        fn write_register(unit: &mut Unit, code: u8, data: u8) {
-            Document01::write_register(unit, code, data);
-            if code == code::CLEAR_FATL {
-                unit.request = false;
             }
         }
     }
@@ -300,6 +252,26 @@ wrong! { Commands:
             for descriptor in &mut unit.table {
                 descriptor.attributes = flag;
             }
+        }
+    }
+    SetAllFromOne "set all CPUI and set all DMAI skip descriptor 0" {
+        fn set_all(unit: &mut Unit, flag: u8) {
+            set_some(unit, flag, 1..64);
+        }
+    }
+    SetAllToLast "set all CPUI and set all DMAI skip descriptor 63" {
+        fn set_all(unit: &mut Unit, flag: u8) {
+            set_some(unit, flag, 0..63);
+        }
+    }
+    SetAllLower "set all CPUI and set all DMAI set descriptors 0 to 31" {
+        fn set_all(unit: &mut Unit, flag: u8) {
+            set_some(unit, flag, 0..32);
+        }
+    }
+    SetAllUpper "set all CPUI and set all DMAI set descriptors 32 to 63" {
+        fn set_all(unit: &mut Unit, flag: u8) {
+            set_some(unit, flag, 32..64);
         }
     }
     SetAllUsed "set all CPUI and set all DMAI set used descriptors only" {
@@ -392,6 +364,14 @@ wrong! { Commands:
         fn next_dscr(code: u8, dscr: u8) -> u8 {
             match code % 4 {
                 3 => (dscr + 1).min(3),
+                _ => Document01::next_dscr(code, dscr),
+            }
+        }
+    }
+    WholeTurnsEarly "%0B and %0F move DSCR up modulo 2" {
+        fn next_dscr(code: u8, dscr: u8) -> u8 {
+            match code % 4 {
+                3 => (dscr + 1) % 2,
                 _ => Document01::next_dscr(code, dscr),
             }
         }

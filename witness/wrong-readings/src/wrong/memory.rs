@@ -55,11 +55,6 @@ wrong! { Memory:
             Document01::held(unit, cycle) && unit.mode(mode::MSEN)
         }
     }
-    HoldWrites "hold suppresses writes only" {
-        fn held(unit: &Unit, cycle: &Cycle) -> bool {
-            Document01::held(unit, cycle) && cycle.write()
-        }
-    }
     HoldWhileRequest "hold suppresses only while a request stands" {
         fn held(unit: &Unit, cycle: &Cycle) -> bool {
             Document01::held(unit, cycle) && unit.request
@@ -302,12 +297,6 @@ wrong! { Memory:
             if !cycle.dma {
                 Document01::mark(unit, cycle);
             }
-        }
-    }
-    MarksChangedAlone "a write sets CHG without REF" {
-        fn mark(unit: &mut Unit, cycle: &Cycle) {
-            let flag = if cycle.write() { attribute::CHG } else { attribute::REF };
-            *descriptor_attributes(unit, cycle) |= flag;
         }
     }
     MarksChangedByReads "a read sets CHG too" {

@@ -7,6 +7,7 @@ mod board_refusals;
 mod board_steps;
 mod checks;
 mod commands;
+mod families;
 mod memory;
 mod recording;
 mod step;
@@ -69,11 +70,17 @@ impl Wrong {
 pub fn readings() -> Vec<&'static Wrong> {
     let subjects = [
         step::READINGS,
+        families::step::READINGS,
         commands::READINGS,
+        families::commands::READINGS,
         translation::READINGS,
+        families::translation::READINGS,
         checks::READINGS,
+        families::checks::READINGS,
         recording::READINGS,
+        families::recording::READINGS,
         memory::READINGS,
+        families::memory::READINGS,
         trace::READINGS,
         text::READINGS,
         board_refusals::READINGS,
@@ -108,7 +115,7 @@ macro_rules! wrong {
     )*) => {
         $(
             struct $name;
-            $crate::wrong::with_paper!($rules $name { fn $method $($methods)* });
+            $crate::wrong::with_paper!($rules $name [] { fn $method $($methods)* });
         )*
         pub const READINGS: &[$crate::wrong::Wrong] = &[$(
             $crate::wrong::Wrong {
@@ -149,58 +156,62 @@ macro_rules! by_scripts {
     };
 }
 
-/// The methods go to the named trait; the paper has the others.
+/// The methods go to the named trait; the paper has the others. What stands in
+/// brackets is the parameter of a family's type.
 macro_rules! with_paper {
-    (Board $name:ident $methods:tt) => {
-        impl witness::board::Board for $name $methods
-        $crate::wrong::paper!($name: checks::Checks commands::Commands memory::Memory
+    (Board $name:ident [$($of:ident: $kind:ident)?] $methods:tt) => {
+        impl<$($of: $kind)?> witness::board::Board for $name<$($of)?> $methods
+        $crate::wrong::paper!($name [$($of: $kind)?]: checks::Checks commands::Commands memory::Memory
             recording::Recording step::Step translation::Translation);
     };
-    (Checks $name:ident $methods:tt) => {
-        impl witness::checks::Checks for $name $methods
-        $crate::wrong::paper!($name: commands::Commands memory::Memory recording::Recording
+    (Checks $name:ident [$($of:ident: $kind:ident)?] $methods:tt) => {
+        impl<$($of: $kind)?> witness::checks::Checks for $name<$($of)?> $methods
+        $crate::wrong::paper!($name [$($of: $kind)?]: commands::Commands memory::Memory recording::Recording
             step::Step text::Text trace::Layout translation::Translation);
     };
-    (Commands $name:ident $methods:tt) => {
-        impl witness::commands::Commands for $name $methods
-        $crate::wrong::paper!($name: checks::Checks memory::Memory recording::Recording
+    (Commands $name:ident [$($of:ident: $kind:ident)?] $methods:tt) => {
+        impl<$($of: $kind)?> witness::commands::Commands for $name<$($of)?> $methods
+        $crate::wrong::paper!($name [$($of: $kind)?]: checks::Checks memory::Memory recording::Recording
             step::Step text::Text trace::Layout translation::Translation);
     };
-    (Memory $name:ident $methods:tt) => {
-        impl witness::memory::Memory for $name $methods
-        $crate::wrong::paper!($name: checks::Checks commands::Commands recording::Recording
+    (Memory $name:ident [$($of:ident: $kind:ident)?] $methods:tt) => {
+        impl<$($of: $kind)?> witness::memory::Memory for $name<$($of)?> $methods
+        $crate::wrong::paper!($name [$($of: $kind)?]: checks::Checks commands::Commands recording::Recording
             step::Step text::Text trace::Layout translation::Translation);
     };
-    (Recording $name:ident $methods:tt) => {
-        impl witness::recording::Recording for $name $methods
-        $crate::wrong::paper!($name: checks::Checks commands::Commands memory::Memory
+    (Recording $name:ident [$($of:ident: $kind:ident)?] $methods:tt) => {
+        impl<$($of: $kind)?> witness::recording::Recording for $name<$($of)?> $methods
+        $crate::wrong::paper!($name [$($of: $kind)?]: checks::Checks commands::Commands memory::Memory
             step::Step text::Text trace::Layout translation::Translation);
     };
-    (Step $name:ident $methods:tt) => {
-        impl witness::step::Step for $name $methods
-        $crate::wrong::paper!($name: checks::Checks commands::Commands memory::Memory
+    (Step $name:ident [$($of:ident: $kind:ident)?] $methods:tt) => {
+        impl<$($of: $kind)?> witness::step::Step for $name<$($of)?> $methods
+        $crate::wrong::paper!($name [$($of: $kind)?]: checks::Checks commands::Commands memory::Memory
             recording::Recording text::Text trace::Layout translation::Translation);
     };
-    (Text $name:ident $methods:tt) => {
-        impl witness::text::Text for $name $methods
-        $crate::wrong::paper!($name: checks::Checks commands::Commands memory::Memory
+    (Text $name:ident [$($of:ident: $kind:ident)?] $methods:tt) => {
+        impl<$($of: $kind)?> witness::text::Text for $name<$($of)?> $methods
+        $crate::wrong::paper!($name [$($of: $kind)?]: checks::Checks commands::Commands memory::Memory
             recording::Recording step::Step trace::Layout translation::Translation);
     };
-    (Layout $name:ident $methods:tt) => {
-        impl witness::trace::Layout for $name $methods
-        $crate::wrong::paper!($name: checks::Checks commands::Commands memory::Memory
+    (Layout $name:ident [$($of:ident: $kind:ident)?] $methods:tt) => {
+        impl<$($of: $kind)?> witness::trace::Layout for $name<$($of)?> $methods
+        $crate::wrong::paper!($name [$($of: $kind)?]: checks::Checks commands::Commands memory::Memory
             recording::Recording step::Step text::Text translation::Translation);
     };
-    (Translation $name:ident $methods:tt) => {
-        impl witness::translation::Translation for $name $methods
-        $crate::wrong::paper!($name: checks::Checks commands::Commands memory::Memory
+    (Translation $name:ident [$($of:ident: $kind:ident)?] $methods:tt) => {
+        impl<$($of: $kind)?> witness::translation::Translation for $name<$($of)?> $methods
+        $crate::wrong::paper!($name [$($of: $kind)?]: checks::Checks commands::Commands memory::Memory
             recording::Recording step::Step text::Text trace::Layout);
     };
 }
 
 macro_rules! paper {
-    ($name:ident: $($module:ident::$rules:ident)*) => {
+    ($name:ident []: $($module:ident::$rules:ident)*) => {
         $(impl witness::$module::$rules for $name {})*
+    };
+    ($name:ident [$of:ident: $kind:ident]: $($module:ident::$rules:ident)*) => {
+        $(impl<$of: $kind> witness::$module::$rules for $name<$of> {})*
     };
 }
 

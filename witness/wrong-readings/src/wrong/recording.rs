@@ -321,11 +321,6 @@ wrong! { Recording:
             }
         }
     }
-    KeepsSix "VSN and ISN keep six bits" {
-        fn kept_segment(cycle: &Cycle) -> u8 {
-            cycle.entry()
-        }
-    }
     KeepsInverted "VSN and ISN keep bit 6 inverted" {
         fn kept_segment(cycle: &Cycle) -> u8 {
             cycle.segment ^ 0x40

@@ -387,11 +387,6 @@ wrong! { Step:
             }
         }
     }
-    ResetNeedsCpu "the reset line counts in CPU cycles only" {
-        fn class(cycle: &Cycle) -> Class {
-            class(Cycle { reset: cycle.reset && !cycle.dma, ..*cycle })
-        }
-    }
     DmaAcknowledges "a DMA cycle at status 4 acknowledges" {
         fn class(cycle: &Cycle) -> Class {
             class(Cycle { dma: cycle.dma && cycle.status != 0x4, ..*cycle })
@@ -439,51 +434,11 @@ wrong! { Step:
             class(Cycle { select: true, ..*cycle })
         }
     }
-    CommandAtTwo "status 2 is a command as well" {
-        fn class(cycle: &Cycle) -> Class {
-            let status = if cycle.status == 0x2 { 0x3 } else { cycle.status };
-            class(Cycle { status, ..*cycle })
-        }
-    }
-    MemoryToE "status %E is a memory cycle" {
-        fn class(cycle: &Cycle) -> Class {
-            let status = if cycle.status == 0xE { 0x8 } else { cycle.status };
-            class(Cycle { status, ..*cycle })
-        }
-    }
-    MemoryFromNine "status %8 is no memory cycle" {
-        fn class(cycle: &Cycle) -> Class {
-            let status = if cycle.status == 0x8 { 0x0 } else { cycle.status };
-            class(Cycle { status, ..*cycle })
-        }
-    }
-    DmaIgnored "DMA memory cycles are ignored" {
-        fn class(cycle: &Cycle) -> Class {
-            match class(*cycle) {
-                Class::Memory if cycle.dma => Class::Ignored,
-                class => class,
-            }
-        }
-    }
-    ResetLeavesVtr "a reset leaves the VTR" {
-        fn reset(unit: &mut Unit, cycle: &Cycle) {
-            let vtr = unit.vtr;
-            Document01::reset(unit, cycle);
-            unit.vtr = vtr;
-        }
-    }
     ResetLeavesOrphan "a reset leaves SWW and FATL" {
         fn reset(unit: &mut Unit, cycle: &Cycle) {
             let kept = unit.vtr & !violation::PRIMARY;
             Document01::reset(unit, cycle);
             unit.vtr = kept;
-        }
-    }
-    ResetLeavesDscr "a reset leaves DSCR" {
-        fn reset(unit: &mut Unit, cycle: &Cycle) {
-            let dscr = unit.dscr;
-            Document01::reset(unit, cycle);
-            unit.dscr = dscr;
         }
     }
     ResetLeavesRequest "a reset leaves a trap in flight: request and await" {
@@ -498,12 +453,6 @@ wrong! { Step:
             let (own, hold) = (unit.own, unit.hold);
             Document01::reset(unit, cycle);
             (unit.own, unit.hold) = (own, hold);
-        }
-    }
-    ResetClearsSar "a reset clears SAR" {
-        fn reset(unit: &mut Unit, cycle: &Cycle) {
-            Document01::reset(unit, cycle);
-            unit.sar = 0;
         }
     }
     ResetClearsViolation "a reset clears VSN, VOFF and BCSR" {
@@ -608,30 +557,6 @@ wrong! { Step:
             }
         }
     }
-    AcknowledgeLeavesAwait "an acknowledge leaves await: it only takes the request back" {
-        fn acknowledge(unit: &mut Unit, cycle: &Cycle) -> Option<u8> {
-            let awaits = unit.awaits;
-            let data = Document01::acknowledge(unit, cycle);
-            unit.awaits = awaits;
-            data
-        }
-    }
-    AcknowledgeLeavesOwn "an acknowledge leaves own" {
-        fn acknowledge(unit: &mut Unit, cycle: &Cycle) -> Option<u8> {
-            let own = unit.own;
-            let data = Document01::acknowledge(unit, cycle);
-            unit.own = own;
-            data
-        }
-    }
-    AcknowledgeLeavesHold "an acknowledge leaves hold" {
-        fn acknowledge(unit: &mut Unit, cycle: &Cycle) -> Option<u8> {
-            let hold = unit.hold;
-            let data = Document01::acknowledge(unit, cycle);
-            unit.hold = hold;
-            data
-        }
-    }
     AcknowledgeLowNotDriven "an acknowledge without request drives nothing" {
         fn acknowledge(unit: &mut Unit, cycle: &Cycle) -> Option<u8> {
             Document01::acknowledge(unit, cycle).filter(|&data| data != 0)
@@ -647,13 +572,6 @@ wrong! { Step:
     AcknowledgeReversed "the acknowledge byte counts the lines from the top" {
         fn acknowledge(unit: &mut Unit, cycle: &Cycle) -> Option<u8> {
             Document01::acknowledge(unit, cycle).map(u8::reverse_bits)
-        }
-    }
-    AcknowledgeClearsVtr "an acknowledge clears the VTR" {
-        fn acknowledge(unit: &mut Unit, cycle: &Cycle) -> Option<u8> {
-            let data = Document01::acknowledge(unit, cycle);
-            unit.vtr = 0;
-            data
         }
     }
     AcknowledgeClearsRange "an acknowledge clears bit 6 of VSN" {

@@ -86,11 +86,6 @@ wrong! { Translation:
             responsible(unit, unit.mr & !mst, cycle)
         }
     }
-    PassesSixBits "a passed address has six bits of the segment" {
-        fn logical(cycle: &Cycle) -> u16 {
-            Document01::logical(&Cycle { segment: cycle.segment % 64, ..*cycle })
-        }
-    }
     PassesSwapped "a passed address has the segment in the low byte" {
         fn logical(cycle: &Cycle) -> u16 {
             Document01::logical(cycle).swap_bytes()
