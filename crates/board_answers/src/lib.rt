@@ -1,4 +1,5 @@
 // Ticket 3's joined lines: what a board answers that does not refuse, from the answers of its units, one after another.
+#![tactic(auto)]
 ghost use Rattle.std.specs.Prelude.{◌≡◌, cond};
 ghost use Rattle.theorems_runs.specs.Answers.{is_aborted};
 ghost use Rattle.board_rules.specs.Board.{kind_by};
@@ -9,7 +10,7 @@ use rules::{Address, Answer, Cycle, Kind, Unit};
 
 // The answers so far: kind, address, distance and number of the unit that drives, the address being off where none does; whether it is an
 // aborted fetch in any unit; and the joined lines.
-#[derive(Drop)]
+#[derive(Clone, Copy)]
 pub struct Joint {
     pub kind: Kind,
     pub address: Address,

@@ -1,4 +1,5 @@
 // Ticket 3's refusals: what a board refuses, judged from the registers of its units, one after another, before any unit is touched.
+#![tactic(auto)]
 ghost use Rattle.std.specs.Prelude.{◌≡◌};
 ghost use Rattle.board_rules.specs.Board.{refusing};
 ghost use Rattle.theorems_boards.specs.Numbers.{may_drive};
@@ -21,7 +22,7 @@ const WRONG_WAY: u8 = 4;
 
 // What a cycle asks of every unit alike: whether it is past its numbers, a memory cycle, a command to the units that are selected, and the
 // number that says no to this command.
-#[derive(Drop)]
+#[derive(Clone, Copy)]
 pub struct Asked {
     pub outside: bool,
     pub memory: bool,
@@ -31,7 +32,7 @@ pub struct Asked {
 
 // What is known of the units that were judged so far: the lowest one's own number and the unit, whether one of them drives the address and
 // whether two do, whether one takes a command and whether two do, and whether a request stands. Number 0: no unit refuses.
-#[derive(Drop)]
+#[derive(Clone, Copy)]
 pub struct Judged {
     pub number: u8,
     pub refuser: u8,

@@ -1,40 +1,41 @@
 // A board of 1 to 16 units, its cycle and its answer: the types that ticket 3's rules, in specs/, speak of, and the
 // cycle as one unit sees it.
+#![tactic(auto)]
 ghost use Rattle.std.specs.Prelude.{◌≡◌};
 ghost use Rattle.board_rules.specs.Board.{seen_by};
 
 use rules::{Answer, Cycle, Unit};
 
 // A board. Units past the count are looked at by nothing.
-#[derive(Drop)]
+#[derive(Clone, Copy)]
 pub struct Board {
     pub units: [Unit; Board::UNITS],
     pub count: u8,
 }
 
 // A cycle for all units, with a select bit for each: unit 0 in bit 0. The cycle's own select is looked at by nothing.
-#[derive(Drop)]
+#[derive(Clone, Copy)]
 pub struct BoardCycle {
     pub cycle: Cycle,
     pub selects: u16,
 }
 
 // The unit that an answer names.
-#[derive(Drop)]
+#[derive(Clone, Copy)]
 pub enum Named {
     Nobody,
     Number(u8),
 }
 
 // What the board drives, and the unit that drove the address or refused.
-#[derive(Drop)]
+#[derive(Clone, Copy)]
 pub struct BoardAnswer {
     pub answer: Answer,
     pub named: Named,
 }
 
 // The board after a cycle, and the cycle's answer.
-#[derive(Drop)]
+#[derive(Clone, Copy)]
 pub struct BoardStepped {
     pub board: Board,
     pub answer: BoardAnswer,

@@ -1,5 +1,6 @@
 // A run of a board from power-on over records, its answers packed in a lent buffer: registers and tables are locals, and each record is judged
 // from the registers before any unit is touched.
+#![tactic(auto)]
 ghost use Rattle.std.specs.Prelude.{◌≡◌, false, cond, ◌+◌, ◌*◌, ◌≤◌, length};
 ghost use mir.Val.{bool_byte};
 ghost use Rattle.rules.specs.Refusals.{damaged, out_of_range};
@@ -35,7 +36,7 @@ const ALL: usize = Board::UNITS * Unit::DESCRIPTORS;
 const EVERY: u32 = 65535;
 
 // The units that a memory cycle may concern, unit 0 in bit 0; whether one of them drives the address, and whether two do.
-#[derive(Drop)]
+#[derive(Clone, Copy)]
 struct Drivers {
     mask: u32,
     drives: bool,
@@ -43,7 +44,7 @@ struct Drivers {
 }
 
 // Whether a unit is selected, whether several are, and the first.
-#[derive(Drop)]
+#[derive(Clone, Copy)]
 struct Chosen {
     some: bool,
     several: bool,
@@ -51,7 +52,7 @@ struct Chosen {
 }
 
 // What is to be done for a cycle: the units to look at, and what the board refuses, but for the requests that stand.
-#[derive(Drop)]
+#[derive(Clone, Copy)]
 struct Prepared {
     mask: u32,
     judged: Judged,

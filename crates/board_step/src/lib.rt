@@ -1,4 +1,5 @@
 // One cycle of a board, by value: all units are judged, and only where the board does not refuse is any of them stepped.
+#![tactic(auto)]
 ghost use Rattle.std.specs.Prelude.{◌≡◌, map, [], ◌++◌, ◌≤◌, length, take, drop};
 ghost use Rattle.board_rules.specs.Board.{seated, answer_of, afterwards, board_stepped};
 ghost use Rattle.board_answers.specs.Joint.{nothing, ahead};
@@ -11,7 +12,7 @@ use rules::{Cycle, Unit};
 use unit_step::step::step as unit_after;
 
 // The units, stepped, and what they answered.
-#[derive(Drop)]
+#[derive(Clone, Copy)]
 struct All {
     units: [Unit; Board::UNITS],
     joint: Joint,

@@ -1,6 +1,7 @@
 // The C interface: a unit in bytes that the caller keeps, stepped cycle by cycle, a board of 1 to 16 such units, one's bytes behind another's,
 // stepped where they stand, a recorder of cycles in a buffer that the caller keeps, and the text of a whole trace. It keeps no state, and no call
 // asks anything of its caller. `include/distantarm.h` declares these functions for C.
+#![tactic(auto)]
 ghost use Rattle.text.specs.Listed.{Listed};
 ghost use Rattle.distantarm.specs.Interface.{PoweredOn, Called, given, BoardCalled, board_given, RecordingStarted, CycleRecorded};
 

@@ -1,4 +1,5 @@
 // An example for users of the crates: a unit from power-on, stepped through two records of a capture. It writes the address that is driven.
+#![tactic(auto)]
 ghost use Rattle.std.specs.Prelude.{◌≡◌};
 
 use libc::STDOUT_FILENO;

@@ -1,4 +1,5 @@
 // Document 01, "Checks": the rights of a translated cycle.
+#![tactic(auto)]
 ghost use Rattle.std.specs.Prelude.{◌≡◌};
 ghost use Rattle.rules.specs.Checks.{rights_of};
 

@@ -1,4 +1,5 @@
 // Document 01, "Translation": how a memory cycle goes through the unit, and the address lines.
+#![tactic(auto)]
 ghost use Rattle.std.specs.Prelude.{◌≡◌};
 ghost use Rattle.rules.specs.Translation.{way_of, block_of, address_of};
 

@@ -1,4 +1,5 @@
 // mmurun: reads a trace from standard input, and writes the text that `text::listing` makes of it to standard output.
+#![tactic(auto)]
 ghost use Rattle.std.specs.Prelude.{◌≡◌, ◌≤◌, length};
 ghost use Rattle.std.proofs.lemmas.List.Edits.{sets};
 ghost use Rattle.text.specs.Listed.{text_room};

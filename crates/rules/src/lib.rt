@@ -1,9 +1,10 @@
 // The unit, its cycle and its answer: the types that the rules of specs/ speak of, the constants that belong to the unit, and power-on.
+#![tactic(auto)]
 ghost use Rattle.std.specs.Prelude.{◌≡◌};
 ghost use Rattle.rules.specs.PowerOn.{power_on};
 
 // A segment's descriptor.
-#[derive(Drop)]
+#[derive(Clone, Copy)]
 pub struct Descriptor {
     pub base: u16,
     pub limit: u8,
@@ -11,7 +12,7 @@ pub struct Descriptor {
 }
 
 // The registers that commands write.
-#[derive(Drop)]
+#[derive(Clone, Copy)]
 pub struct Control {
     pub mr: u8,
     pub sar: u8,
@@ -19,7 +20,7 @@ pub struct Control {
 }
 
 // The VTR, and what its first entry stored.
-#[derive(Drop)]
+#[derive(Clone, Copy)]
 pub struct Faults {
     pub vtr: u8,
     pub vsn: u8,
@@ -28,14 +29,14 @@ pub struct Faults {
 }
 
 // Where the last instruction was fetched.
-#[derive(Drop)]
+#[derive(Clone, Copy)]
 pub struct Fetched {
     pub isn: u8,
     pub ioff: u8,
 }
 
 // The four notes. `awaits` is document 01's await, a word that the language keeps for itself.
-#[derive(Drop)]
+#[derive(Clone, Copy)]
 pub struct Notes {
     pub request: bool,
     pub awaits: bool,
@@ -45,7 +46,7 @@ pub struct Notes {
 
 // Everything that a unit keeps beside its descriptors. `low` is the low byte of the address whose offset byte is VOFF, which a latch on the board
 // can have: the chip has no such register, and no command shows it.
-#[derive(Drop)]
+#[derive(Clone, Copy)]
 pub struct Registers {
     pub control: Control,
     pub faults: Faults,
@@ -55,14 +56,14 @@ pub struct Registers {
 }
 
 // A unit record.
-#[derive(Drop)]
+#[derive(Clone, Copy)]
 pub struct Unit {
     pub table: [Descriptor; Unit::DESCRIPTORS],
     pub registers: Registers,
 }
 
 // A bus cycle. `offset` is the byte of the address phase: the offset's high byte, or the command code; `low` is the offset's low byte.
-#[derive(Drop)]
+#[derive(Clone, Copy)]
 pub struct Cycle {
     pub status: u8,
     pub read: bool,
@@ -77,7 +78,7 @@ pub struct Cycle {
 }
 
 // What a cycle was; `Refused` holds the number that says no.
-#[derive(Drop)]
+#[derive(Clone, Copy)]
 pub enum Kind {
     Reset,
     Acknowledge,
@@ -90,14 +91,14 @@ pub enum Kind {
 }
 
 // The address, on lines A23 to A8: the number of a block. One that is not driven has the value 0.
-#[derive(Drop)]
+#[derive(Clone, Copy)]
 pub struct Address {
     pub driven: bool,
     pub block: u16,
 }
 
 // What the unit drives, and how many blocks a translated cycle is from the edge of its segment. A data byte that is not driven has the value 0.
-#[derive(Drop)]
+#[derive(Clone, Copy)]
 pub struct Answer {
     pub kind: Kind,
     pub address: Address,
@@ -109,7 +110,7 @@ pub struct Answer {
 }
 
 // What the status asks for.
-#[derive(Drop)]
+#[derive(Clone, Copy)]
 pub enum Purpose {
     Command,
     Acknowledge,
@@ -118,7 +119,7 @@ pub enum Purpose {
 }
 
 // How a memory cycle goes through the unit.
-#[derive(Drop)]
+#[derive(Clone, Copy)]
 pub enum Way {
     Silent,
     Passed,
@@ -126,7 +127,7 @@ pub enum Way {
 }
 
 // A register that commands can only read.
-#[derive(Drop)]
+#[derive(Clone, Copy)]
 pub enum Register {
     Vtr,
     Vsn,
@@ -137,7 +138,7 @@ pub enum Register {
 }
 
 // What a descriptor command works on.
-#[derive(Drop)]
+#[derive(Clone, Copy)]
 pub enum Part {
     Base,
     Limit,
@@ -146,7 +147,7 @@ pub enum Part {
 }
 
 // A set or clear command.
-#[derive(Drop)]
+#[derive(Clone, Copy)]
 pub enum Action {
     SoftwareReset,
     ClearVtr,
@@ -157,7 +158,7 @@ pub enum Action {
 }
 
 // What a command code stands for.
-#[derive(Drop)]
+#[derive(Clone, Copy)]
 pub enum Command {
     Mr,
     Sar,
@@ -169,7 +170,7 @@ pub enum Command {
 }
 
 // What a cycle does to the table: nothing, one descriptor put in place, or flags set in all.
-#[derive(Drop)]
+#[derive(Clone, Copy)]
 pub enum Change {
     Keep,
     Put(Descriptor),
@@ -177,7 +178,7 @@ pub enum Change {
 }
 
 // What is decided from the registers, one descriptor and the cycle.
-#[derive(Drop)]
+#[derive(Clone, Copy)]
 pub struct Decision {
     pub answer: Answer,
     pub registers: Registers,
@@ -185,7 +186,7 @@ pub struct Decision {
 }
 
 // The unit after a cycle, and the cycle's answer.
-#[derive(Drop)]
+#[derive(Clone, Copy)]
 pub struct Stepped {
     pub unit: Unit,
     pub answer: Answer,

@@ -1,4 +1,5 @@
 // Runs a board many times over records from power-on and writes the packed answers of the last run: what the benchmark times, with no text.
+#![tactic(auto)]
 use libc::{STDIN_FILENO, STDOUT_FILENO};
 
 // How often. The witness is told the same number.

@@ -2,6 +2,7 @@
 // prints is mmurun's text of the trace, and each part of it is the reader's or the unit's, so that both are held to the same lines as the run.
 // Its own trace is samples/every.mbt.
 // Nothing here is public: most functions write to standard output, of which a contract can say nothing, and what the others do is seen there.
+#![tactic(auto)]
 use libc::{STDIN_FILENO, STDOUT_FILENO};
 use rules::{Answer, Unit};
 use trace_header::RECORD;

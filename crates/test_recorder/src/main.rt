@@ -1,6 +1,7 @@
 // Reads a script from standard input, and writes what the recorder gives at its start and for each cycle, with the bytes of the lent buffer that
 // the call changed, and mmurun's text of the trace. The functions here only have to be safe and to end: what they read and write is held to the
 // stored text, and to the second model.
+#![tactic(auto)]
 mod lines;
 mod show;
 
@@ -16,7 +17,7 @@ use trace_writer::{Recorded, record_cycle, record_start};
 const ALL: usize = lines::WORD_VALUES as usize;
 
 // What the next call is given: how many of the bytes, and the count.
-#[derive(Drop)]
+#[derive(Clone, Copy)]
 struct Given {
     lent: u16,
     count: usize,

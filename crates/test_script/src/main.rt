@@ -1,5 +1,6 @@
 // Reads a script from standard input, and writes what a unit answers to each of its cycles, with the registers and one descriptor after it.
 // The functions here only have to be safe and to end: what they read and write is held to the stored text, and to the second model.
+#![tactic(auto)]
 mod lines;
 mod show;
 

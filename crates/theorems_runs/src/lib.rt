@@ -1,1 +1,2 @@
 // What holds for every sequence of cycles, of the rules: no code. The statements are in specs/, their proofs in proofs/.
+#![tactic(auto)]

@@ -1,4 +1,5 @@
 // A trace reader: the lent trace and the number of its next record, kept together, with few thin functions over the crate `trace_records`.
+#![tactic(auto)]
 ghost use Rattle.std.specs.Prelude.{◌≡◌};
 ghost use Rattle.trace_records.specs.Trace.{Shows};
 ghost use Rattle.trace_reader.specs.Reading.{start_of, Answers, Finds, moved_of};
@@ -7,21 +8,21 @@ use rules::Cycle;
 use trace_records::{decode, part, record_refusal};
 
 // What a reader answers: the cycle of a record, or the number that says no.
-#[derive(Drop)]
+#[derive(Clone, Copy)]
 pub enum Step {
     Record(Cycle),
     No(u8),
 }
 
 // What is found at a number of a trace, and the number after it.
-#[derive(Drop)]
+#[derive(Clone, Copy)]
 pub struct Found {
     pub step: Step,
     pub next: usize,
 }
 
 // The lent trace and the number of its next record, kept together.
-#[derive(Drop)]
+#[derive(Clone, Copy)]
 pub struct Reader<'a> {
     pub trace: &'a [u8],
     pub next: usize,

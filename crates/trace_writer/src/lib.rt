@@ -1,5 +1,6 @@
 // Ticket 1, a recorder: from cycles one after another it fills a lent buffer with a trace. No public call asks anything of the buffer or of the
 // count that it is given.
+#![tactic(auto)]
 ghost use Rattle.std.specs.Prelude.{◌≡◌, ◌+◌, ◌<◌, ◌≤◌, length};
 ghost use Rattle.std.proofs.lemmas.List.Edits.{sets};
 ghost use Rattle.trace_header.specs.Header.{head_size, Format, format1};
@@ -18,7 +19,7 @@ use unit_stores::BYTE_VALUES;
 const BYTE: usize = BYTE_VALUES as usize;
 
 // What a call of the writer gives: the number that says no, or 0, and the count of the records in the buffer after it.
-#[derive(Drop)]
+#[derive(Clone, Copy)]
 pub struct Recorded {
     pub number: u8,
     pub count: usize,

@@ -1,4 +1,5 @@
 // What is decided in one cycle, from the registers and one descriptor.
+#![tactic(auto)]
 ghost use Rattle.std.specs.Prelude.{◌≡◌};
 ghost use Rattle.rules.specs.Step.{decided, place_of};
 
