@@ -6,6 +6,7 @@ ghost use Rattle.rules.specs.Entry.{byte_of, replaced, index_of, next_counter, n
 use rules::{Change, Control, Cycle, Descriptor, Part, Unit};
 
 // Bytes 0 and 1 are the base, high first, 2 the limit, 3 the attributes.
+#[tactic(auto, unfolding(rules::specs::Entry::byte_of))]
 pub fn byte_of(d: Descriptor, i: u8) -> u8
     ensures { result ≡ byte_of d i }
 {
@@ -18,6 +19,7 @@ pub fn byte_of(d: Descriptor, i: u8) -> u8
 }
 
 // The descriptor with one byte replaced.
+#[tactic(auto, unfolding(rules::specs::Entry::replaced))]
 pub fn replaced(d: Descriptor, i: u8, b: u8) -> Descriptor
     ensures { result ≡ replaced d i b }
 {
@@ -43,6 +45,7 @@ pub fn replaced(d: Descriptor, i: u8, b: u8) -> Descriptor
 }
 
 // The byte that a command uses.
+#[tactic(auto, unfolding(rules::specs::Entry::index_of))]
 pub fn index_of(p: Part, dscr: u8) -> u8
     ensures { result ≡ index_of p dscr }
 {
@@ -55,6 +58,7 @@ pub fn index_of(p: Part, dscr: u8) -> u8
 }
 
 // DSCR after the byte.
+#[tactic(auto, unfolding(rules::specs::Entry::next_counter))]
 pub fn next_counter(p: Part, dscr: u8) -> u8
     ensures { result ≡ next_counter p dscr }
 {
@@ -68,6 +72,7 @@ pub fn next_counter(p: Part, dscr: u8) -> u8
 }
 
 // SAR after the byte.
+#[tactic(auto, unfolding(rules::specs::Entry::next_segment))]
 pub fn next_segment(sar: u8, on: bool) -> u8
     ensures { result ≡ next_segment sar on }
 {
@@ -79,6 +84,7 @@ pub fn next_segment(sar: u8, on: bool) -> u8
 }
 
 // MR, SAR and DSCR after a descriptor command.
+#[tactic(auto, unfolding(rules::specs::Entry::moved))]
 pub fn moved(k: Control, p: Part, c: Cycle) -> Control
     ensures { result ≡ moved k p c }
 {
@@ -92,6 +98,7 @@ pub fn moved(k: Control, p: Part, c: Cycle) -> Control
 }
 
 // A write takes the cycle's data byte.
+#[tactic(auto, unfolding(rules::specs::Entry::written_by))]
 pub fn written_by(read: bool, d: Descriptor, i: u8, b: u8) -> Change
     ensures { result ≡ written_by read d i b }
 {

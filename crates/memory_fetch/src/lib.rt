@@ -15,6 +15,7 @@ pub fn is_fetch(c: Cycle) -> bool
 }
 
 // The registers after the aborted fetch: await, own and hold are cleared.
+#[tactic(auto, unfolding(rules::specs::Memory::resumed))]
 pub fn resumed(r: Registers) -> Registers
     ensures { result ≡ resumed r }
 {
@@ -22,6 +23,7 @@ pub fn resumed(r: Registers) -> Registers
 }
 
 // The registers as an instruction starts: own and hold are cleared.
+#[tactic(auto, unfolding(rules::specs::Memory::begun))]
 pub fn begun(r: Registers, starts: bool) -> Registers
     ensures { result ≡ begun r starts }
 {

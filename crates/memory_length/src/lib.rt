@@ -6,6 +6,7 @@ ghost use Rattle.rules.specs.Checks.{out_of_length, distance_of, warns};
 use rules::{Cycle, Descriptor, Unit};
 
 // Whether the offset byte is past the limit, in the segment's direction.
+#[tactic(auto, unfolding(rules::specs::Checks::out_of_length))]
 pub fn out_of_length(d: Descriptor, c: Cycle) -> bool
     ensures { result ≡ out_of_length d c }
 {
@@ -17,6 +18,7 @@ pub fn out_of_length(d: Descriptor, c: Cycle) -> bool
 }
 
 // How many whole blocks remain between the accessed one and the last permitted, in the segment's direction; 0 past it.
+#[tactic(auto, unfolding(rules::specs::Checks::out_of_length, rules::specs::Checks::distance_of))]
 pub fn distance(d: Descriptor, c: Cycle) -> u8
     ensures { result ≡ distance_of d c }
 {
@@ -32,6 +34,7 @@ pub fn distance(d: Descriptor, c: Cycle) -> u8
 }
 
 // Whether this cycle warns: a CPU write without violation in the last block of a stack.
+#[tactic(auto, unfolding(rules::specs::Checks::warns))]
 pub fn warns(d: Descriptor, c: Cycle, violation: bool) -> bool
     ensures { result ≡ warns d c violation }
 {

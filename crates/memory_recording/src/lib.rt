@@ -9,6 +9,7 @@ use rules_registers::{with_notes, with_vtr};
 
 // What there is to record: a violation's flags, or PWW, or 0. The findings come one by one: a struct of four bytes is packed into a word,
 // here and in `checked`, and taken apart again in the built program.
+#[tactic(auto, unfolding(rules::specs::Recording::event_of))]
 pub fn event_of(dma: bool, rights: u8, long: bool, violation: bool, warning: bool) -> u8
     ensures { result ≡ event_of dma (record { rights = rights; long = long; violation = violation; warning = warning }) }
 {
@@ -22,6 +23,7 @@ pub fn event_of(dma: bool, rights: u8, long: bool, violation: bool, warning: boo
 }
 
 // The byte that BCSR stores.
+#[tactic(auto, unfolding(rules::specs::Recording::bus_status))]
 pub fn bus_status(c: Cycle) -> u8
     ensures { result ≡ bus_status c }
 {
@@ -29,6 +31,7 @@ pub fn bus_status(c: Cycle) -> u8
 }
 
 // No primary flag stands: all is stored, and the unit asks.
+#[tactic(auto, unfolding(rules::specs::Recording::first_entry))]
 pub fn first_entry(r: Registers, c: Cycle, event: u8) -> Registers
     ensures { result ≡ first_entry r c event }
 {
@@ -59,6 +62,7 @@ pub fn first_entry(r: Registers, c: Cycle, event: u8) -> Registers
 }
 
 // The same instruction again: flags are added, nothing else.
+#[tactic(auto, unfolding(rules::specs::Recording::added))]
 pub fn added(r: Registers, event: u8) -> Registers
     ensures { result ≡ added r event }
 {
@@ -66,6 +70,7 @@ pub fn added(r: Registers, event: u8) -> Registers
 }
 
 // A later instruction's entry: one flag, SWW or FATL, and a request while FATL is clear.
+#[tactic(auto, unfolding(rules::specs::Recording::raised))]
 pub fn raised(r: Registers, flag: u8) -> Registers
     ensures { result ≡ raised r flag }
 {
@@ -80,6 +85,7 @@ pub fn raised(r: Registers, flag: u8) -> Registers
 }
 
 // The recording rows.
+#[tactic(auto, unfolding(rules::specs::Recording::recorded))]
 pub fn recorded(r: Registers, c: Cycle, event: u8) -> Registers
     ensures { result ≡ recorded r c event }
 {

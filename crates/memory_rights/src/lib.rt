@@ -8,6 +8,7 @@ use rules_flags::flag_if;
 
 // The rights that this cycle violates: the VTR's flags in their places, and bit 7 for DMAI. A segment with no protection flag is done
 // at once: that is the faster way through the run.
+#[tactic(auto, using(crate::proofs::Unprotected::unprotected), unfolding(rules::specs::Checks::rights_of))]
 pub fn rights_of(a: u8, c: Cycle) -> u8
     ensures { result ≡ rights_of a c }
 {

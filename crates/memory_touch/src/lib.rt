@@ -7,6 +7,7 @@ use rules::{Change, Control, Cycle, Descriptor, Faults, Fetched, Notes, Register
 use rules_flags::{flag_if, pick};
 
 // REF set, and CHG too by a write.
+#[tactic(auto, unfolding(rules::specs::Memory::touched))]
 fn touched(d: Descriptor, c: Cycle) -> Descriptor
     ensures { result ≡ touched d c }
 {
@@ -18,6 +19,7 @@ fn touched(d: Descriptor, c: Cycle) -> Descriptor
 }
 
 // What a translated cycle does to its descriptor.
+#[tactic(auto, unfolding(rules::specs::Memory::touched_by))]
 pub fn touched_by(sup: bool, d: Descriptor, c: Cycle) -> Change
     ensures { result ≡ touched_by sup d c }
 {
@@ -28,6 +30,7 @@ pub fn touched_by(sup: bool, d: Descriptor, c: Cycle) -> Change
 }
 
 // ISN and IOFF stored, and hold set, where they are.
+#[tactic(auto, unfolding(rules::specs::Memory::noted))]
 pub fn noted(r: Registers, stores: bool, holds: bool, c: Cycle) -> Registers
     ensures { result ≡ noted r stores holds c }
 {

@@ -6,6 +6,7 @@ ghost use Rattle.rules.specs.Translation.{way_of, block_of, address_of};
 use rules::{Address, Cycle, Unit, Way};
 
 // How a memory cycle goes through the unit.
+#[tactic(auto, unfolding(rules::specs::Translation::way_of))]
 pub fn way_of(mr: u8, c: Cycle) -> Way
     ensures { result ≡ way_of mr c }
 {
@@ -34,6 +35,7 @@ pub fn way_of(mr: u8, c: Cycle) -> Way
 // The physical block number: base + offset byte, modulo 65,536. It is worked out in the order in which a byte-wide datapath adds: the low
 // byte first, in nine bits, then its carry into the high byte. The high sum stands in its place, A23 to A16, so that it is a wrapping add on
 // u16: what is lost is the carry out of the high byte, and that is the modulo.
+#[tactic(auto, unfolding(rules::specs::Translation::block_of))]
 pub fn block_of(base: u16, offset: u8) -> u16
     ensures { result ≡ block_of base offset }
 {
@@ -45,6 +47,7 @@ pub fn block_of(base: u16, offset: u8) -> u16
 }
 
 // The address lines.
+#[tactic(auto, unfolding(rules::specs::Translation::address_of))]
 pub fn address_of(w: Way, base: u16, c: Cycle) -> Address
     ensures { result ≡ address_of w base c }
 {

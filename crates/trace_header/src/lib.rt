@@ -32,6 +32,7 @@ pub fn byte_at(bytes: &[u8], at: usize) -> u8
 }
 
 // 16 bits of the header, high byte first.
+#[tactic(auto, unfolding(unit_stores::specs::Word::word_at))]
 fn word_at(bytes: &[u8], at: usize) -> usize
     requires { at < head_size }
     ensures { (result ≡ word_at bytes.now at) × (result < word_values) }
@@ -42,6 +43,7 @@ fn word_at(bytes: &[u8], at: usize) -> usize
 }
 
 // The trace opens with the mark.
+#[tactic(auto, unfolding(crate::specs::Header::marked))]
 fn marked(trace: &[u8]) -> bool
     ensures { result ≡ marked trace.now }
 {
@@ -56,6 +58,7 @@ pub fn count_of(trace: &[u8]) -> usize
 }
 
 // The number that refuses the trace, 5 to 8, or 0.
+#[tactic(auto, unfolding(crate::specs::Header::refusal_in))]
 pub fn refusal(trace: &[u8]) -> u8
     ensures { result ≡ refusal_of trace.now }
 {

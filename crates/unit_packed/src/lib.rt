@@ -37,6 +37,7 @@ pub const TRAP: u8 = 4;
 pub const DRIVES: u8 = 8;
 
 // The flags of an answer.
+#[tactic(auto, unfolding(crate::specs::Packed::flags_of))]
 fn flags_of(a: Answer) -> u8
     ensures { result ≡ flags_of a }
 {
@@ -47,6 +48,7 @@ fn flags_of(a: Answer) -> u8
 }
 
 // An answer's bytes stored from an index on.
+#[tactic(auto, unfolding(crate::specs::Packed::packed))]
 pub fn put(out: &mut [u8], at: usize, a: Answer)
     requires { at + width ≤ length out.old }
     ensures { out.new ≡ sets out.old at (packed a) }
