@@ -24,6 +24,7 @@ fn named_byte(n: Named) -> u8
 }
 
 // An answer's bytes stored from an index on.
+#[tactic(auto, unfolding(crate::specs::BoardPacked::board_packed, unit_packed::specs::Packed::packed))]
 pub fn put(out: &mut [u8], at: usize, a: BoardAnswer)
     requires { at + board_width ≤ length out.old }
     ensures { out.new ≡ sets out.old at (board_packed a) }

@@ -10,6 +10,7 @@ use rules_flags::flag_if;
 use rules_registers::{with_control, with_notes, with_vtr};
 
 // A command: a read drives the byte, a write none.
+#[tactic(auto, unfolding(rules::specs::Commands::replied))]
 pub fn replied(read: bool, b: u8, r: Registers, h: Change) -> Decision
     ensures { result ≡ replied read b r h }
 {
@@ -35,6 +36,7 @@ pub fn register_of(r: Registers, g: Register) -> u8
 }
 
 // VTR, DSCR and all notes cleared, with another MR.
+#[tactic(auto, unfolding(rules::specs::Commands::restarted))]
 pub fn restarted(r: Registers, mr: u8) -> Registers
     ensures { result ≡ restarted r mr }
 {
@@ -54,6 +56,7 @@ fn kept(read: bool, old: Control, new: Control) -> Control
 }
 
 // MR, SAR and DSCR.
+#[tactic(auto, unfolding(rules::specs::Commands::programmed))]
 fn programmed(r: Registers, c: Cycle, old: u8, k: Control) -> Decision
     ensures { result ≡ programmed r c old k }
 {
@@ -104,6 +107,7 @@ pub fn counter(r: Registers, c: Cycle) -> Decision
 }
 
 // One byte of the descriptor at SAR.
+#[tactic(auto, unfolding(rules::specs::Commands::entry))]
 pub fn entry(r: Registers, d: Descriptor, p: Part, c: Cycle) -> Decision
     ensures { result ≡ entry r d p c }
 {
@@ -119,6 +123,7 @@ pub fn entry(r: Registers, d: Descriptor, p: Part, c: Cycle) -> Decision
 }
 
 // A set or clear command.
+#[tactic(auto, unfolding(rules::specs::Commands::acted))]
 pub fn acted(r: Registers, a: Action) -> Decision
     ensures { result ≡ acted r a }
 {

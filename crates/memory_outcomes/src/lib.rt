@@ -28,6 +28,7 @@ pub fn untranslated(r: Registers, c: Cycle, l: Address, kind: Kind) -> Decision
 }
 
 // A translated cycle, by what its checks find.
+#[tactic(auto, unfolding(rules::specs::Memory::checked))]
 pub fn checked(
     rights: u8,
     long: bool,

@@ -23,6 +23,7 @@ pub const SELECT: u8 = 128;
 pub const RESET: u8 = 128;
 
 // How many records the trace gives: its count, and none where it is refused.
+#[tactic(auto, unfolding(crate::specs::Trace::given_in))]
 pub fn count(trace: &[u8]) -> usize
     ensures { result ≡ given_of trace.now }
 {
@@ -31,6 +32,7 @@ pub fn count(trace: &[u8]) -> usize
 }
 
 // The number that refuses record n, 5 to 9, or 0.
+#[tactic(auto, unfolding(crate::specs::Trace::record_refusal_in))]
 pub fn record_refusal(trace: &[u8], n: usize) -> u8
     ensures { result ≡ record_refusal_of trace.now n }
 {
@@ -44,6 +46,7 @@ pub fn record_refusal(trace: &[u8], n: usize) -> u8
 }
 
 // Record n as that part of the trace, and the empty part at the trace's start where it is refused.
+#[tactic(auto, using(crate::proofs::Within::record_within), unfolding(crate::specs::Trace::part_in, crate::specs::Trace::part_start_in))]
 pub fn part(trace: &[u8], n: usize) -> &[u8]
     ensures { Shows trace.entry n result }
 {
@@ -56,6 +59,7 @@ pub fn part(trace: &[u8], n: usize) -> &[u8]
 }
 
 // The cycle of a record's four bytes, which have no low byte: it is 0. In a shorter part the bytes that are missing count as 0, and in a longer one the first four are read.
+#[tactic(auto, unfolding(crate::specs::Trace::cycle_of))]
 pub fn decode(part: &[u8]) -> Cycle
     ensures { result ≡ cycle_of part.now }
 {
