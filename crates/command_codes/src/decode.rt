@@ -5,6 +5,7 @@ ghost use Rattle.rules.specs.Codes.{command_of};
 use rules::{Action, Command, Part, Register, Unit};
 
 // What a command code stands for.
+#[tactic(auto, unfolding(rules::specs::Codes::command_of))]
 pub fn command(code: u8) -> Command
     ensures { result ≡ command_of code }
 {

@@ -6,6 +6,7 @@ use crate::decode;
 use rules::{Change, Command, Cycle, Decision, Descriptor, Registers};
 
 // What a code stands for, done.
+#[tactic(auto, unfolding(rules::specs::Commands::executed))]
 fn executed(m: Command, read: bool, r: Registers, d: Descriptor, c: Cycle) -> Decision
     ensures { result ≡ executed m read r d c }
 {
@@ -35,6 +36,7 @@ fn executed(m: Command, read: bool, r: Registers, d: Descriptor, c: Cycle) -> De
 }
 
 // A selected command.
+#[tactic(auto, unfolding(rules::specs::Commands::commanded))]
 pub fn commanded(r: Registers, d: Descriptor, c: Cycle) -> Decision
     ensures { result ≡ commanded r d c }
 {

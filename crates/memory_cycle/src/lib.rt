@@ -6,6 +6,7 @@ ghost use Rattle.rules.specs.Memory.{accessed, through, memory};
 use rules::{Address, Cycle, Decision, Descriptor, Kind, Registers, Way};
 
 // A translated cycle that is no aborted fetch; `r` are the registers as it begins.
+#[tactic(auto, unfolding(rules::specs::Memory::accessed))]
 fn accessed(r: Registers, d: Descriptor, c: Cycle, l: Address) -> Decision
     ensures { result ≡ accessed r d c l }
 {
@@ -28,6 +29,7 @@ fn through(way: Way, r: Registers, d: Descriptor, c: Cycle, l: Address) -> Decis
 }
 
 // A memory cycle, with its segment's descriptor.
+#[tactic(auto, unfolding(rules::specs::Memory::memory))]
 pub fn memory(r: Registers, d: Descriptor, c: Cycle) -> Decision
     ensures { result ≡ memory r d c }
 {
