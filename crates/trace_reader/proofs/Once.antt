@@ -31,5 +31,5 @@ pub shown_at_only : (κs : Lfts 1) (a b : Dens κs shown-at-k.ps) (x y : Bor (Li
     (e f : AtExit (ended_of 1 shown-at-k.ps shown-at-k.r) κs)
     → (a.0.now ≡ b.0.now) × (a.1.0 ≡ b.1.0)
     → shown-at.Learnt κs a x e → shown-at.Learnt κs b y f
-    → (x.now ≡ y.now) × (a.0.ptr ≡ b.0.ptr → x.ref_ptr ≡ y.ref_ptr)
+    → (x.now ≡ y.now) × (a.0.ref_ptr ≡ b.0.ref_ptr → x.ref_ptr ≡ y.ref_ptr)
 shown_at_only κs a b x y e f s p q = (cc, λ same. cc)

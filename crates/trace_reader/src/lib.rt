@@ -49,7 +49,6 @@ fn found_at(trace: &[u8], n: usize) -> Found
 }
 
 // A reader of the trace, at record 0.
-#[tactic(auto, using(crate::proofs::Held::Part, crate::proofs::Held::trace_val))]
 pub fn start<'a>(trace: &'a [u8]) -> Reader<'a>
     ensures { result ≡ start_of trace.entry }
 {
@@ -57,7 +56,6 @@ pub fn start<'a>(trace: &'a [u8]) -> Reader<'a>
 }
 
 // The next record's cycle, or the number that says no. The reader's number goes up by 1 exactly where a record is given.
-#[tactic(auto, using(crate::proofs::Held::R, crate::proofs::Held::passed, crate::proofs::Held::put, crate::proofs::Held::Own, crate::proofs::Held::Passed, crate::proofs::Held::apart, crate::proofs::Held::again))]
 pub fn next<'s, 'a>(r: &'s mut Reader<'a>) -> Step
     ensures { Answers r.old.trace.now r.old.next result × (r.new ≡ moved_of r.old) }
 {
@@ -67,7 +65,6 @@ pub fn next<'s, 'a>(r: &'s mut Reader<'a>) -> Step
 }
 
 // The next record as that part of the trace, and the empty part where there is none.
-#[tactic(auto, using(crate::proofs::Held::Part, crate::proofs::Held::passed, crate::proofs::Held::Own, crate::proofs::Held::Passed, crate::proofs::Held::apart))]
 pub fn shown<'a>(r: Reader<'a>) -> &'a [u8]
     ensures { Shows r.entry.trace r.entry.next result }
 {
@@ -76,7 +73,6 @@ pub fn shown<'a>(r: Reader<'a>) -> &'a [u8]
 
 // A reader of the trace, put to number n and asked once: what it gives, and its number after, at which it can be taken up again. Its
 // parameters are plain, so whoever calls it needs no proof by hand.
-#[tactic(auto, using(crate::proofs::Held::R, crate::proofs::Held::Part, crate::proofs::Held::trace_val, crate::proofs::Held::passed, crate::proofs::Held::put, crate::proofs::Held::Own, crate::proofs::Held::again, crate::proofs::Started::Start, crate::proofs::Started::to_start, crate::proofs::Started::Trace, crate::proofs::Started::goes_start, crate::proofs::Within::Way, crate::proofs::Within::begins, crate::proofs::Within::ends, crate::proofs::Within::over, crate::proofs::Within::below))]
 pub fn read_at(trace: &[u8], n: usize) -> Found
     ensures { Finds trace.now n result }
 {
@@ -87,7 +83,6 @@ pub fn read_at(trace: &[u8], n: usize) -> Found
 }
 
 // What such a reader shows.
-#[tactic(auto, using(crate::proofs::Held::R, crate::proofs::Held::Part, crate::proofs::Held::trace_val, crate::proofs::Held::passed, crate::proofs::Held::put, crate::proofs::Held::Own, crate::proofs::Held::again, crate::proofs::Started::Start, crate::proofs::Started::to_start, crate::proofs::Started::Trace, crate::proofs::Started::goes_start))]
 pub fn shown_at(trace: &[u8], n: usize) -> &[u8]
     ensures { Shows trace.entry n result }
 {

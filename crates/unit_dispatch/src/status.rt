@@ -8,6 +8,7 @@ use rules_flags::flag_if;
 use rules_registers::with_notes;
 
 // The reset line.
+#[tactic(auto, unfolding(rules::specs::Status::reset_by))]
 pub fn reset_by(select: bool, r: Registers) -> Decision
     ensures { result ≡ reset_by select r }
 {
@@ -16,6 +17,7 @@ pub fn reset_by(select: bool, r: Registers) -> Decision
 }
 
 // The byte that an acknowledge drives: 2^ID while the request stands, else 0.
+#[tactic(auto, using(rules::proofs::Bounds::one_bit_lem), unfolding(rules::specs::Status::acknowledge_byte))]
 fn acknowledge_byte(r: Registers) -> u8
     ensures { result ≡ acknowledge_byte r }
 {
@@ -27,6 +29,7 @@ fn acknowledge_byte(r: Registers) -> u8
 }
 
 // All four notes cleared.
+#[tactic(auto, unfolding(rules::specs::Status::quieted))]
 fn quieted(r: Registers) -> Registers
     ensures { result ≡ quieted r }
 {
@@ -35,6 +38,7 @@ fn quieted(r: Registers) -> Registers
 
 // Status 4: the line of the unit's number, and the notes cleared. The one answer that is not made in `rules_answers`: made there, it costs
 // three instructions in every cycle of the built run.
+#[tactic(auto, unfolding(rules::specs::Status::acknowledged))]
 fn acknowledged(r: Registers) -> Decision
     ensures { result ≡ acknowledged r }
 {
@@ -64,6 +68,7 @@ fn ignored(r: Registers) -> Decision
 }
 
 // What the status asks for.
+#[tactic(auto, unfolding(rules::specs::Status::purpose_of))]
 fn purpose_of(status: u8) -> Purpose
     ensures { result ≡ purpose_of status }
 {
@@ -76,6 +81,7 @@ fn purpose_of(status: u8) -> Purpose
 }
 
 // A cycle with the reset line off.
+#[tactic(auto, unfolding(rules::specs::Status::by_status))]
 pub fn by_status(r: Registers, d: Descriptor, c: Cycle) -> Decision
     ensures { result ≡ by_status r d c }
 {
