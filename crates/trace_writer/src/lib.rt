@@ -40,6 +40,7 @@ fn put_header(trace: &mut [u8], count: usize)
 }
 
 // The bytes of a cycle's record, from an index on.
+#[tactic(auto, unfolding(crate::specs::Writing::record_bytes))]
 fn put_record(trace: &mut [u8], at: usize, c: Cycle)
     requires { at + format1.record_size ≤ length trace.old }
     ensures { trace.new ≡ sets trace.old at (record_bytes c) }
@@ -54,6 +55,7 @@ fn put_record(trace: &mut [u8], at: usize, c: Cycle)
 
 // The number that refuses a cycle at a count, in a buffer of so many bytes, or 0. "The count with this cycle" may be past all numbers of a usize,
 // so the bound is held to the count without it.
+#[tactic(auto, using(crate::proofs::Ends::passes), unfolding(crate::specs::Writing::record_number))]
 fn refusal(bytes: usize, count: usize, c: Cycle) -> u8
     ensures { result ≡ record_number bytes count c }
 {
@@ -70,6 +72,7 @@ fn refusal(bytes: usize, count: usize, c: Cycle) -> u8
 }
 
 // The start: the header of no record, at the buffer's start. A buffer that is too short for it gives 10 and is left as it was.
+#[tactic(auto, unfolding(crate::specs::Writing::start_number, crate::specs::Writing::buffer_started))]
 pub fn record_start(trace: &mut [u8]) -> Recorded
     ensures { Starts trace.old trace.new result }
 {
@@ -89,6 +92,7 @@ pub fn record_start(trace: &mut [u8]) -> Recorded
 
 // One cycle more, for a trace of `count` records: its record behind them, and the header of one record more. Where a number says no, the buffer
 // and the count are as they were.
+#[tactic(auto, using(crate::proofs::Ends::fits, crate::proofs::Ends::stored, crate::proofs::Ends::refused))]
 pub fn record_cycle(trace: &mut [u8], count: usize, c: Cycle) -> Recorded
     ensures { Records c count trace.old trace.new result }
 {

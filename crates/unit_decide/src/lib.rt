@@ -7,6 +7,7 @@ use rules::{Cycle, Decision, Descriptor, Registers, Unit};
 use unit_dispatch::{refusals, status};
 
 // What is decided in one cycle; `d` is the descriptor at its place.
+#[tactic(auto, unfolding(rules::specs::Step::decided))]
 pub fn act(r: Registers, d: Descriptor, c: Cycle) -> Decision
     ensures { result ≡ decided r d c }
 {
@@ -26,6 +27,7 @@ pub fn act(r: Registers, d: Descriptor, c: Cycle) -> Decision
 }
 
 // Whose descriptor a cycle looks at, modulo 64: that at SAR in a command, else the segment's.
+#[tactic(auto, unfolding(rules::specs::Step::place_of))]
 pub fn place_of(r: Registers, c: Cycle) -> u8
     ensures { result ≡ place_of r c }
 {

@@ -6,6 +6,7 @@ use crate::table;
 use rules::{Cycle, Stepped, Unit};
 
 // The unit after a cycle, and its answer.
+#[tactic(auto, unfolding(rules::specs::Step::after, rules::specs::Step::decision))]
 pub fn step(u: Unit, c: Cycle) -> Stepped
     ensures { result ≡ stepped u c }
 {

@@ -16,6 +16,7 @@ pub fn with_flags(d: Descriptor, mask: u8) -> Descriptor
 }
 
 // Flags set in every descriptor.
+#[tactic(auto, using(crate::proofs::Prefix::up_to, crate::proofs::Prefix::up_to_suc, crate::proofs::Prefix::up_to_all))]
 pub fn with_flags_in_all(
     t: [Descriptor; Unit::DESCRIPTORS],
     mask: u8,
@@ -31,6 +32,7 @@ pub fn with_flags_in_all(
 }
 
 // The table after a change at a place, modulo 64.
+#[tactic(auto, unfolding(rules::specs::Step::changed))]
 pub fn changed(
     h: Change,
     place: u8,
