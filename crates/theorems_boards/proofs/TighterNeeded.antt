@@ -25,7 +25,7 @@ use Rattle.board_rules.specs.declared.Board.{Board}
 use Rattle.board_rules.specs.declared.BoardAnswer.{BoardAnswer}
 use Rattle.board_rules.specs.declared.BoardCycle.{BoardCycle}
 use Rattle.theorems_boards.specs.Seats.{cycle_at}
-use Rattle.theorems_boards.specs.BoardTighter.{BoardCovers, BoardNearer, BoardTighterBy, Tightened, NoWriteTo, AnyCycle, on_either, board_before}
+use Rattle.theorems_boards.specs.BoardTighter.{BoardCovers, BoardNearer, BoardTighterBy, Tightened, NoWriteTo, AnyCycle, on_either, on_none, board_before}
 use Rattle.theorems_boards.specs.BoardTighter.{FewerStop, BoardStopNeeded, AnyUnitStops, BoardWritesExcluded}
 use Rattle.theorems_boards.proofs.Computed.{computed}
 use Rattle.theorems_boards.proofs.Tighter.{board_demand_3}
@@ -74,7 +74,7 @@ refuted stop claim both =
 
 pub board_stop_needed : BoardStopNeeded
 unfolding computed board_before
-board_stop_needed claim = refuted _ claim refl
+board_stop_needed claim = refuted on_none claim refl
 
 pub any_unit_stops : AnyUnitStops
 unfolding computed board_before

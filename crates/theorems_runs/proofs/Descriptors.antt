@@ -224,7 +224,7 @@ command-place u c e =
     let small : u.registers.control.sar ≤ 63 = ((bounded_exactly u.registers).0 sound).0.sar in
     rw three (omega arith)
 
-change_stays : {e p m lets : Bool} {h : Change} (c : Cycle) (k : ℕ) (t : List Descriptor) (j i : ℕ)
+change_stays : {e p m lets : Bool} (c : Cycle) (k : ℕ) (t : List Descriptor) (j i : ℕ) {h : Change}
     → Alters c (get_or t j blank) k e p m lets h → (e ≡ true → i ≡ j → ⊥) → p ≡ false → m ≡ false
     → SameRules (get_or t i blank) (get_or (changed h j t) i blank)
 unfolding changed
@@ -266,7 +266,7 @@ descriptors_stay_throughout u cs i q = go (descriptor u i) cs u (same_refl _) q
 
 -- What changes one
 
-change_puts : {e p m lets : Bool} {h : Change} (c : Cycle) (k : ℕ) (t : List Descriptor) (j : ℕ)
+change_puts : {e p m lets : Bool} (c : Cycle) (k : ℕ) (t : List Descriptor) (j : ℕ) {h : Change}
     → Alters c (get_or t j blank) k e p m lets h → e ≡ true → j < length t → get_or (changed h j t) j blank ≡ replaced (get_or t j blank) k c.byte
 unfolding changed
 change_puts c k t j keeps q s = absurd (false≢true q)
@@ -284,7 +284,7 @@ write_replaces u c i s w =
     subst (λ (j : ℕ). j < length u.table → descriptor (stepped u c).unit j ≡ replaced (descriptor u j) (byte_in u c) c.byte) at_sar
     (change_puts c (byte_in u c) u.table (place u c) (alters u c) e) s
 
-change_raises : {e p m lets : Bool} {h : Change} (c : Cycle) (k : ℕ) (t : List Descriptor) (j i : ℕ)
+change_raises : {e p m lets : Bool} (c : Cycle) (k : ℕ) (t : List Descriptor) (j i : ℕ) {h : Change}
     → Alters c (get_or t j blank) k e p m lets h → i < length t
     → (p ≡ true → get_or (changed h j t) i blank ≡ with_flags CPUI (get_or t i blank))
     × (m ≡ true → get_or (changed h j t) i blank ≡ with_flags DMAI (get_or t i blank))
@@ -301,7 +301,7 @@ set-all-sets u c i s = change_raises c (byte_in u c) u.table (place u c) i (alte
 
 -- Memory cycles
 
-change-marks : {e p m lets : Bool} {h : Change} (c : Cycle) (k : ℕ) (t : List Descriptor) (j i : ℕ)
+change-marks : {e p m lets : Bool} (c : Cycle) (k : ℕ) (t : List Descriptor) (j i : ℕ) {h : Change}
     → Alters c (get_or t j blank) k e p m lets h → (e ≡ true → i ≡ j → ⊥) → p ≡ false → m ≡ false → i < length t
     → get_or (changed h j t) i blank ≡ cond (lets && eqb i j) (touched (get_or t i blank) c) (get_or t i blank)
 unfolding changed

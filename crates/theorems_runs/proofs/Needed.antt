@@ -16,7 +16,7 @@ use Rattle.rules.specs.declared.Cycle.{Cycle}
 use Rattle.rules.specs.declared.Descriptor.{Descriptor}
 use Rattle.rules.specs.declared.Unit.{Unit}
 use Rattle.theorems_runs.specs.Sequences.{Both}
-use Rattle.theorems_runs.specs.Tighter.{Wider, Covers, before, NoDescriptorWrite, TighterBy, StopNeeded}
+use Rattle.theorems_runs.specs.Tighter.{Wider, Covers, before, nowhere, NoDescriptorWrite, TighterBy, StopNeeded}
 use Rattle.theorems_runs.specs.Tighter.{in_either, Any, WritesExcluded}
 use Rattle.theorems_runs.proofs.Computed.{computed}
 use Rattle.theorems_runs.proofs.Examples.{unit, unit_undamaged, unit_loosened, read_only, writable, closed, writable_wider}
@@ -30,7 +30,7 @@ fault_then_fetch = cycle false false false 8 1 0 ∷ cycle false true false 13 2
 
 pub stop_needed : StopNeeded
 unfolding fault_then_fetch before computed
-stop_needed claim = refuted _ claim refl
+stop_needed claim = refuted nowhere claim refl
   where
     first : Unit
     first = unit blank read_only closed

@@ -30,12 +30,11 @@ use Rattle.theorems_runs.specs.Cycles.{selected_command, acknowledge, memory_cyc
 use Rattle.theorems_runs.specs.Cycles.{translation_conditions, descriptor_write, writes}
 use Rattle.theorems_runs.specs.Descriptors.{descriptor, writes_to, writes_here, byte_at}
 use Rattle.theorems_runs.specs.Hold.{ends_hold, holds, cpu_violation}
-use Rattle.theorems_runs.specs.Narrower.{WiderTable, HoldsFirst, Level, Narrower, NarrowerInStep, TurnsNone, WritesNone, AlongBoth}
+use Rattle.theorems_runs.specs.Narrower.{HoldsFirst, Level, Narrower, NarrowerInStep, TurnsNone, WritesNone, AlongBoth}
 use Rattle.theorems_runs.specs.Narrower.{SameSar, SameDscr}
 use Rattle.theorems_runs.specs.Refusal.{admitted}
 use Rattle.theorems_runs.specs.Sequences.{◌⇒◌, Both}
 use Rattle.theorems_runs.specs.Tighter.{Wider, Nearer}
-use Rattle.theorems_runs.specs.Undamaged.{Undamaged}
 use Rattle.theorems_runs.specs.Unstopped.{MrExactly, of_aborted, CoversBut, CoversUnstopped, CoversWithWrites, NearerUnstopped}
 use Rattle.theorems_runs.proofs.Answers.{address_exactly, sup_exactly, distance_exactly, translates}
 use Rattle.theorems_runs.proofs.Codes.{is_act_of, is_mr, software_reset_code, mr_code}
