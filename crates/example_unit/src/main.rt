@@ -1,8 +1,8 @@
 // An example for users of the crates: a unit from power-on, stepped through two records of a capture. It writes the address that is driven.
 #![tactic(auto)]
+
 ghost use Rattle.std.specs.Prelude.{◌≡◌};
 
-use libc::STDOUT_FILENO;
 use rules::Unit;
 use text::numbers::put_hex;
 use trace_records::decode;
@@ -17,10 +17,10 @@ fn passed() -> u16
     read.answer.address.block
 }
 
-fn main() {
+fn main(rt: HostRuntime) {
     let block = passed();
     let mut line = *b"xxxx\n";
     put_hex(&mut line, 0, (block / 256) as u8);
     put_hex(&mut line, 2, (block % 256) as u8);
-    io::write_all(STDOUT_FILENO, &line);
+    streams::write_all(&mut rt.stdout(), &line);
 }

@@ -1,27 +1,31 @@
 // mmurun: reads a trace from standard input, and writes the text that `text::listing` makes of it to standard output.
 #![tactic(auto)]
-ghost use Rattle.std.specs.Prelude.{◌≡◌, ◌≤◌, length};
+
+ghost use Rattle.std.specs.Prelude.{◌≡◌, ◌≤◌, length, true};
+ghost use Rattle.std.specs.Io.KnownBytes.{Appends};
 ghost use Rattle.std.proofs.lemmas.List.Edits.{sets};
 ghost use Rattle.text.specs.Listed.{text_room};
 ghost use Rattle.text.specs.Text.{printed};
 
-use libc::{STDIN_FILENO, STDOUT_FILENO};
+use std::io::Write;
 
 // Writes the text of the trace, and asks that it is that: so this call can hand on nothing else, and no other writes. Where standard output is closed or
 // fails, the rest is not written, and the program ends.
-fn write_text(trace: &[u8], text: &[u8])
+fn write_text<W: Write>(out: &mut W, trace: &[u8], text: &[u8]) -> bool
     requires { text.now ≡ printed trace.now }
+    ensures { result ≡ true → Appends (W.contents out.old) (W.contents out.new) (printed trace.now) }
 {
-    io::write_all(STDOUT_FILENO, text);
+    streams::write_all(out, text)
 }
 
 // Writes the text of the trace by way of `text`, which holds it afterwards.
-fn show(trace: &[u8], text: &mut [u8])
+fn show<W: Write>(out: &mut W, trace: &[u8], text: &mut [u8]) -> bool
     requires { text_room ≤ length text.old }
-    ensures { text.new ≡ sets text.old 0 (printed trace.now) }
+    ensures held { text.new ≡ sets text.old 0 (printed trace.now) }
+    ensures written { result ≡ true → Appends (W.contents out.old) (W.contents out.new) (printed trace.now) }
 {
     let n = text::listing::list(trace, text);
-    write_text(trace, &text[..n]);
+    write_text(out, trace, &text[..n])
 }
 
 // Room for the longest text. An array of this size in `main` itself would make its proof slow.
@@ -33,9 +37,9 @@ fn room() -> [u8; text::listing::ROOM]
 
 // The longest good trace has 64,007 bytes. Of a longer input the first 65,536 bytes are read, and their text is that of the whole
 // (`cut` in the proofs of `text`).
-fn main() {
-    let mut trace = io::large_buffer();
-    let n = io::read_full(STDIN_FILENO, &mut trace);
+fn main(rt: HostRuntime) {
+    let mut trace = streams::large_buffer();
+    let n = streams::read_full(&mut rt.stdin(), &mut trace);
     let mut text = room();
-    show(&trace[..n], &mut text);
+    show(&mut rt.stdout(), &trace[..n], &mut text);
 }

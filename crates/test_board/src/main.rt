@@ -1,12 +1,13 @@
 // Reads a script from standard input, and writes what a board answers to each of its cycles, with each unit that the cycle changed. The functions
 // here only have to be safe and to end: what they read and write is held to the stored text, and to the second model.
 #![tactic(auto)]
+
 mod lines;
 mod show;
 
 use board_rules::Board;
-use libc::STDIN_FILENO;
 use rules::Unit;
+use std::io::Stdout;
 use test_lines::show::other;
 use test_lines::{line_end, parse};
 use unit_bytes::snapshot;
@@ -39,18 +40,18 @@ fn set_descriptor(units: &mut [u8; ALL], line: &[u8]) {
 }
 
 // The cycle of a `C` line: its answer, and the units that it changed.
-fn step(units: &mut [u8; ALL], count: u8, line: &[u8]) {
+fn step(out: Stdout, units: &mut [u8; ALL], count: u8, line: &[u8]) {
     let before = *units;
     let mut answer = [0; board_packed::BYTES];
     let c = parse::cycle_in(line);
     let selects = lines::selects_in(line);
     board_bytes::cycle(units, &mut answer, count as usize, c, selects);
-    show::answer(&answer);
-    show::changes(&before, units);
+    show::answer(out, &answer);
+    show::changes(out, &before, units);
 }
 
 // The number of units after a line; one that asks for nothing is answered at once.
-fn obeyed(units: &mut [u8; ALL], count: u8, line: &[u8]) -> u8 {
+fn obeyed(out: Stdout, units: &mut [u8; ALL], count: u8, line: &[u8]) -> u8 {
     match lines::kind_of(line) {
         b'B' => {
             *units = power_on();
@@ -63,30 +64,30 @@ fn obeyed(units: &mut [u8; ALL], count: u8, line: &[u8]) -> u8 {
             set_descriptor(units, line);
         }
         b'C' => {
-            step(units, count, line);
+            step(out, units, count, line);
         }
         _ => {
-            other(line);
+            other(out, line);
         }
     }
     count
 }
 
 // Every line of the script. Before any of them the board has one unit, at power-on.
-fn replay(script: &[u8]) {
+fn replay(out: Stdout, script: &[u8]) {
     let mut units = power_on();
     let mut count = 1;
     let mut from = 0;
     while from < script.len() {
         let end = line_end(script, from);
-        count = obeyed(&mut units, count, &script[from..end]);
+        count = obeyed(out, &mut units, count, &script[from..end]);
         from = end + 1;
     }
 }
 
 // At most 65,536 bytes are read; of a longer script the rest is left.
-fn main() {
-    let mut script = io::large_buffer();
-    let n = io::read_full(STDIN_FILENO, &mut script);
-    replay(&script[..n]);
+fn main(rt: HostRuntime) {
+    let mut script = streams::large_buffer();
+    let n = streams::read_full(&mut rt.stdin(), &mut script);
+    replay(rt.stdout(), &script[..n]);
 }

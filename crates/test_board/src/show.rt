@@ -4,21 +4,22 @@ ghost use Rattle.unit_bytes.specs.Snapshot.{segments, unit_size};
 
 use board_rules::Board;
 use rules::Unit;
+use std::io::Stdout;
 use test_lines::show;
 use trace_header::byte_at;
 use unit_bytes::snapshot;
 
 // The answer's line, which ends with the unit that is named.
-pub fn answer(packed: &[u8; board_packed::BYTES]) {
-    show::answer(packed);
-    show::text(b" | ");
+pub fn answer(out: Stdout, packed: &[u8; board_packed::BYTES]) {
+    show::answer(out, packed);
+    show::text(out, b" | ");
     let named = packed[board_packed::NAMED_AT];
     if named == board_packed::NOBODY {
-        show::text(b"--");
+        show::text(out, b"--");
     } else {
-        show::number(named);
+        show::number(out, named);
     }
-    show::text(b"\n");
+    show::text(out, b"\n");
 }
 
 // Whether two units' bytes differ from an index up to another.
@@ -34,38 +35,38 @@ fn differ(old: &[u8], new: &[u8], from: usize, to: usize) -> bool {
 }
 
 // The descriptor at a place, where it has changed.
-fn descriptor(old: &[u8], new: &[u8], place: usize)
+fn descriptor(out: Stdout, old: &[u8], new: &[u8], place: usize)
     requires { (unit_size ≤ length new.now) × (place < segments) }
 {
     let at = snapshot::TABLE + snapshot::DESCRIPTOR * place;
     if differ(old, new, at, at + snapshot::DESCRIPTOR) {
         let d = snapshot::descriptor_in(new, at);
-        show::descriptor(place as u8, d);
+        show::descriptor(out, place as u8, d);
     }
 }
 
 // A unit's line, where it has changed: its number, its registers, and the descriptors that have changed.
-fn unit(i: u8, old: &[u8], new: &[u8])
+fn unit(out: Stdout, i: u8, old: &[u8], new: &[u8])
     requires { unit_size ≤ length new.now }
 {
     if !differ(old, new, 0, snapshot::BYTES) {
         return;
     }
-    show::number(i);
-    show::registers(new);
+    show::number(out, i);
+    show::registers(out, new);
     for place in 0..Unit::DESCRIPTORS {
-        descriptor(old, new, place);
+        descriptor(out, old, new, place);
     }
-    show::text(b"\n");
+    show::text(out, b"\n");
 }
 
 // The line of each unit that has changed.
-pub fn changes(old: &[u8], new: &[u8])
+pub fn changes(out: Stdout, old: &[u8], new: &[u8])
     requires { (16 * unit_size ≤ length old.now) × (16 * unit_size ≤ length new.now) }
 {
     for i in 0..Board::UNITS {
         let at = snapshot::BYTES * i;
         let end = at + snapshot::BYTES;
-        unit(i as u8, &old[at..end], &new[at..end]);
+        unit(out, i as u8, &old[at..end], &new[at..end]);
     }
 }

@@ -1,6 +1,7 @@
 // Runs a board many times over records from power-on and writes the packed answers of the last run: what the benchmark times, with no text.
 #![tactic(auto)]
-use libc::{STDIN_FILENO, STDOUT_FILENO};
+
+use std::io::Stdout;
 
 // How often. The witness is told the same number.
 const RUNS: usize = 100;
@@ -20,13 +21,13 @@ fn again(records: &[u8], count: u8, answers: &mut [u8]) -> usize {
 }
 
 // The answers of all records.
-fn show(input: &[u8], answers: &mut [u8]) {
+fn show(mut out: Stdout, input: &[u8], answers: &mut [u8]) {
     if input.len() == 0 {
         return;
     }
     let cycles = again(&input[1..], input[0], answers);
     if cycles <= answers.len() / board_packed::BYTES {
-        io::write_all(STDOUT_FILENO, &answers[..board_packed::BYTES * cycles]);
+        streams::write_all(&mut out, &answers[..board_packed::BYTES * cycles]);
     }
 }
 
@@ -38,9 +39,9 @@ fn room() -> [u8; ROOM] {
     [0; ROOM]
 }
 
-fn main() {
+fn main(rt: HostRuntime) {
     let mut records = input();
-    let n = io::read_full(STDIN_FILENO, &mut records);
+    let n = streams::read_full(&mut rt.stdin(), &mut records);
     let mut answers = room();
-    show(&records[..n], &mut answers);
+    show(rt.stdout(), &records[..n], &mut answers);
 }

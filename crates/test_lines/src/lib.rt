@@ -1,6 +1,7 @@
 // What the programs that read a script share: where its lines end, what they say, and what is written of them. These functions only have to be
 // safe and to end: what they read and write is held to the stored text of the programs, and to the second model.
 #![tactic(auto)]
+
 ghost use Rattle.std.specs.Prelude.{◌≤◌, length};
 
 pub mod parse;

@@ -3,8 +3,9 @@
 // Its own trace is samples/every.mbt.
 // Nothing here is public: most functions write to standard output, of which a contract can say nothing, and what the others do is seen there.
 #![tactic(auto)]
-use libc::{STDIN_FILENO, STDOUT_FILENO};
+
 use rules::{Answer, Unit};
+use std::io::Stdout;
 use trace_header::RECORD;
 use trace_reader::{Step, read_at, shown_at};
 use trace_records::count;
@@ -14,15 +15,15 @@ use unit_lent::step_by_lending;
 const END: u8 = 9;
 
 // Some bytes as they are.
-fn text(s: &[u8]) {
-    io::write_all(STDOUT_FILENO, s);
+fn text(mut out: Stdout, s: &[u8]) {
+    streams::write_all(&mut out, s);
 }
 
 // A line of some words and a number.
-fn said(words: &[u8], n: usize) {
-    text(words);
-    io::print_decimal(STDOUT_FILENO, n as u64);
-    text(b"\n");
+fn said(mut out: Stdout, words: &[u8], n: usize) {
+    text(out, words);
+    streams::print_decimal(&mut out, n as u64);
+    text(out, b"\n");
 }
 
 // The number that the reader refuses record n by, or 0.
@@ -45,59 +46,59 @@ fn shows(trace: &[u8], n: usize, bytes: usize) -> bool {
 }
 
 // The first line, by what the reader answers at its end: 9, at a number that stays, with no byte shown, or what refuses the trace.
-fn head(trace: &[u8]) {
+fn head(out: Stdout, trace: &[u8]) {
     let end = count(trace);
     let no = refusal_at(trace, end);
     if (no == END) & shows(trace, end, 0) {
-        said(b"MBT 1 ", next_at(trace, end));
+        said(out, b"MBT 1 ", next_at(trace, end));
     } else {
-        said(b"X", no as usize);
+        said(out, b"X", no as usize);
     }
 }
 
 // The line of record n. It is made as record 0's, and the number is put in the 0's place.
-fn line(n: usize, a: Answer) {
+fn line(mut out: Stdout, n: usize, a: Answer) {
     let mut packed = [0; unit_packed::BYTES];
     unit_packed::put(&mut packed, 0, a);
     let mut line = [0; text::lines::LINE];
     let end = text::lines::put_lines(&packed, 1, &mut line, 0);
-    io::print_decimal(STDOUT_FILENO, n as u64);
+    streams::print_decimal(&mut out, n as u64);
     if 1 < end {
-        text(&line[1..end]);
+        text(out, &line[1..end]);
     }
 }
 
 // The unit after record n, and the record's line, where the reader gives one.
-fn stepped(u: Unit, trace: &[u8], n: usize) -> Unit {
+fn stepped(out: Stdout, u: Unit, trace: &[u8], n: usize) -> Unit {
     let step = read_at(trace, n).step;
     if let Step::Record(c) = step {
         let s = step_by_lending(u, c);
-        line(n, s.answer);
+        line(out, n, s.answer);
         return s.unit;
     }
     u
 }
 
 // Every record that the reader gives and shows, by its own number, at which it is asked again.
-fn through(trace: &[u8]) {
+fn through(out: Stdout, trace: &[u8]) {
     let mut u = Unit::power_on();
     let mut n = 0;
     for _ in 0..count(trace) {
         if shows(trace, n, RECORD) {
-            u = stepped(u, trace, n);
+            u = stepped(out, u, trace, n);
         }
         n = next_at(trace, n);
     }
 }
 
 // The text of the trace.
-fn whole(trace: &[u8]) {
-    head(trace);
-    through(trace);
+fn whole(out: Stdout, trace: &[u8]) {
+    head(out, trace);
+    through(out, trace);
 }
 
-fn main() {
-    let mut trace = io::large_buffer();
-    let n = io::read_full(STDIN_FILENO, &mut trace);
-    whole(&trace[..n]);
+fn main(rt: HostRuntime) {
+    let mut trace = streams::large_buffer();
+    let n = streams::read_full(&mut rt.stdin(), &mut trace);
+    whole(rt.stdout(), &trace[..n]);
 }

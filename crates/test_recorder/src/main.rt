@@ -2,12 +2,13 @@
 // the call changed, and mmurun's text of the trace. The functions here only have to be safe and to end: what they read and write is held to the
 // stored text, and to the second model.
 #![tactic(auto)]
+
 mod lines;
 mod show;
 
 ghost use Rattle.std.specs.Prelude.{◌≤◌, length};
 
-use libc::STDIN_FILENO;
+use std::io::Stdout;
 use test_lines::show::other;
 use test_lines::{line_end, parse};
 use trace_header::{HEAD, RECORD};
@@ -52,18 +53,18 @@ fn cycle(buffer: &mut [u8], end: usize, count: usize, line: &[u8]) -> Recorded
 }
 
 // The count after the start, which is shown.
-fn shown_start(buffer: &mut [u8; ALL], lent: u16) -> usize {
+fn shown_start(out: Stdout, buffer: &mut [u8; ALL], lent: u16) -> usize {
     let before = *buffer;
     let recorded = start(buffer, lent as usize);
-    show::call(recorded, &before, buffer, lent);
+    show::call(out, recorded, &before, buffer, lent);
     recorded.count
 }
 
 // The count after the cycle of a `C` line, which is shown.
-fn shown_cycle(buffer: &mut [u8; ALL], lent: u16, count: usize, line: &[u8]) -> usize {
+fn shown_cycle(out: Stdout, buffer: &mut [u8; ALL], lent: u16, count: usize, line: &[u8]) -> usize {
     let before = *buffer;
     let recorded = cycle(buffer, lent as usize, count, line);
-    show::call(recorded, &before, buffer, lent);
+    show::call(out, recorded, &before, buffer, lent);
     recorded.count
 }
 
@@ -82,28 +83,35 @@ fn trace_end(lent: u16, count: usize) -> usize
 }
 
 // The count after a line that lends no buffer; one that asks for nothing is answered at once.
-fn count_after(buffer: &mut [u8; ALL], lent: u16, count: usize, kind: u8, line: &[u8]) -> usize {
+fn count_after(
+    out: Stdout,
+    buffer: &mut [u8; ALL],
+    lent: u16,
+    count: usize,
+    kind: u8,
+    line: &[u8],
+) -> usize {
     match kind {
         b'N' => lines::count_in(line),
-        b'S' => shown_start(buffer, lent),
-        b'C' => shown_cycle(buffer, lent, count, line),
+        b'S' => shown_start(out, buffer, lent),
+        b'C' => shown_cycle(out, buffer, lent, count, line),
         b'P' => {
             set_byte(buffer, lent, line);
             count
         }
         b'T' => {
-            show::trace(buffer, trace_end(lent, count));
+            show::trace(out, buffer, trace_end(lent, count));
             count
         }
         _ => {
-            other(line);
+            other(out, line);
             count
         }
     }
 }
 
 // What the next call is given after a line.
-fn obeyed(buffer: &mut [u8; ALL], given: Given, line: &[u8]) -> Given {
+fn obeyed(out: Stdout, buffer: &mut [u8; ALL], given: Given, line: &[u8]) -> Given {
     let kind = lines::kind_of(line);
     if kind == b'B' {
         *buffer = filled(lines::byte_in(line));
@@ -113,25 +121,25 @@ fn obeyed(buffer: &mut [u8; ALL], given: Given, line: &[u8]) -> Given {
         };
     }
     let lent = given.lent;
-    let count = count_after(buffer, lent, given.count, kind, line);
+    let count = count_after(out, buffer, lent, given.count, kind, line);
     Given { lent, count }
 }
 
 // Every line of the script. Before any of them the buffer has no bytes.
-fn replay(script: &[u8]) {
+fn replay(out: Stdout, script: &[u8]) {
     let mut buffer = filled(0);
     let mut given = Given { lent: 0, count: 0 };
     let mut from = 0;
     while from < script.len() {
         let end = line_end(script, from);
-        given = obeyed(&mut buffer, given, &script[from..end]);
+        given = obeyed(out, &mut buffer, given, &script[from..end]);
         from = end + 1;
     }
 }
 
 // At most 65,536 bytes are read; of a longer script the rest is left.
-fn main() {
-    let mut script = io::large_buffer();
-    let n = io::read_full(STDIN_FILENO, &mut script);
-    replay(&script[..n]);
+fn main(rt: HostRuntime) {
+    let mut script = streams::large_buffer();
+    let n = streams::read_full(&mut rt.stdin(), &mut script);
+    replay(rt.stdout(), &script[..n]);
 }

@@ -1,12 +1,13 @@
 // Reads a script from standard input, and writes what a unit answers to each of its cycles, with the registers and one descriptor after it.
 // The functions here only have to be safe and to end: what they read and write is held to the stored text, and to the second model.
 #![tactic(auto)]
+
 mod lines;
 mod show;
 
-use libc::STDIN_FILENO;
 use rules::{Change, Unit};
 use rules_flags::pick;
+use std::io::Stdout;
 use test_lines::show::other;
 use test_lines::{line_end, parse};
 use unit_lent::step_by_lending;
@@ -24,7 +25,7 @@ fn with_descriptor(u: Unit, line: &[u8]) -> Unit {
 
 // The unit after the cycle of a `C` line, stepped in place, which is shown with a descriptor: that at SAR, as it stood, at status 3, else the
 // segment's.
-fn stepped(u: Unit, line: &[u8]) -> Unit {
+fn stepped(out: Stdout, u: Unit, line: &[u8]) -> Unit {
     let c = parse::cycle_in(line);
     let place = pick(
         c.status == Unit::COMMAND,
@@ -32,37 +33,37 @@ fn stepped(u: Unit, line: &[u8]) -> Unit {
         c.segment,
     );
     let s = step_by_lending(u, c);
-    show::cycle(s, place % Unit::SEGMENTS);
+    show::cycle(out, s, place % Unit::SEGMENTS);
     s.unit
 }
 
 // The unit after a line; one that asks for nothing is answered at once.
-fn obeyed(u: Unit, line: &[u8]) -> Unit {
+fn obeyed(out: Stdout, u: Unit, line: &[u8]) -> Unit {
     match lines::kind_of(line) {
         b'U' => lines::unit_in(line),
         b'D' => with_descriptor(u, line),
-        b'C' => stepped(u, line),
+        b'C' => stepped(out, u, line),
         _ => {
-            other(line);
+            other(out, line);
             u
         }
     }
 }
 
 // Every line of the script.
-fn replay(script: &[u8]) {
+fn replay(out: Stdout, script: &[u8]) {
     let mut unit = Unit::power_on();
     let mut from = 0;
     while from < script.len() {
         let end = line_end(script, from);
-        unit = obeyed(unit, &script[from..end]);
+        unit = obeyed(out, unit, &script[from..end]);
         from = end + 1;
     }
 }
 
 // At most 65,536 bytes are read; of a longer script the rest is left.
-fn main() {
-    let mut script = io::large_buffer();
-    let n = io::read_full(STDIN_FILENO, &mut script);
-    replay(&script[..n]);
+fn main(rt: HostRuntime) {
+    let mut script = streams::large_buffer();
+    let n = streams::read_full(&mut rt.stdin(), &mut script);
+    replay(rt.stdout(), &script[..n]);
 }

@@ -1,6 +1,7 @@
 // Runs a trace many times from power-on and writes the packed answers of the last run: what the benchmark times, with no text.
 #![tactic(auto)]
-use libc::{STDIN_FILENO, STDOUT_FILENO};
+
+use std::io::Stdout;
 
 // How often. The witness is told the same number.
 const RUNS: usize = 500;
@@ -15,14 +16,14 @@ fn again(trace: &[u8], answers: &mut [u8]) -> u8 {
 }
 
 // The answers of a good trace; a refused one has none.
-fn show(trace: &[u8], answers: &mut [u8]) {
+fn show(mut out: Stdout, trace: &[u8], answers: &mut [u8]) {
     let number = again(trace, answers);
     let count = trace_records::count(trace);
     if number != 0 {
         return;
     }
     if count <= answers.len() / unit_packed::BYTES {
-        io::write_all(STDOUT_FILENO, &answers[..unit_packed::BYTES * count]);
+        streams::write_all(&mut out, &answers[..unit_packed::BYTES * count]);
     }
 }
 
@@ -32,9 +33,9 @@ fn room() -> [u8; run::ROOM] {
 }
 
 // The buffer has room for more than the longest good trace, so that a longer one is refused.
-fn main() {
-    let mut trace = io::large_buffer();
-    let n = io::read_full(STDIN_FILENO, &mut trace);
+fn main(rt: HostRuntime) {
+    let mut trace = streams::large_buffer();
+    let n = streams::read_full(&mut rt.stdin(), &mut trace);
     let mut answers = room();
-    show(&trace[..n], &mut answers);
+    show(rt.stdout(), &trace[..n], &mut answers);
 }
