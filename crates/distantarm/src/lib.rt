@@ -1,6 +1,6 @@
 // The C interface: a unit in bytes that the caller keeps, stepped cycle by cycle, a board of 1 to 16 such units, one's bytes behind another's,
 // stepped where they stand, a recorder of cycles in a buffer that the caller keeps, and the text of a whole trace. It keeps no state, and no call
-// asks anything of its caller. `include/distantarm.h` declares these functions for C.
+// asks anything of its caller. `distantarm_c` exports these functions, and `include/distantarm.h` declares them for C.
 #![tactic(auto)]
 ghost use Rattle.text.specs.Listed.{Listed};
 ghost use Rattle.distantarm.specs.Interface.{PoweredOn, Called, given, BoardCalled, board_given, RecordingStarted, CycleRecorded};
@@ -9,8 +9,7 @@ use rules::{Cycle, Unit};
 use unit_stores::NO_ROOM;
 
 // The unit at power-on: 0, and its bytes at the start of the buffer. A buffer that is too short gives NO_ROOM and is left as it was.
-#[unsafe(no_mangle)]
-pub extern "C" fn distantarm_power_on(unit: &mut [u8]) -> u8
+pub fn distantarm_power_on(unit: &mut [u8]) -> u8
     ensures { PoweredOn unit.old unit.new result }
 {
     let narrow = unit.len() < unit_bytes::snapshot::BYTES;
@@ -24,8 +23,7 @@ pub extern "C" fn distantarm_power_on(unit: &mut [u8]) -> u8
 
 // One cycle: the packed answer in the one buffer, the unit after the cycle in the other, and 0 or the number of the refusal. Where a
 // buffer is too short it gives NO_ROOM, and both are left as they were.
-#[unsafe(no_mangle)]
-pub extern "C" fn distantarm_cycle(
+pub fn distantarm_cycle(
     unit: &mut [u8],
     answer: &mut [u8],
     status: u8,
@@ -64,8 +62,7 @@ pub extern "C" fn distantarm_cycle(
 // One cycle of a board of `count` units, for all of them, with a select bit for each, unit 0 in bit 0: the packed answer of the board in the one
 // buffer, the units after the cycle in the other, and 0 or the number of the refusal. A count that is not 1 to 16 gives 11, whatever the
 // units' buffer holds. Where a buffer is too short it gives NO_ROOM, and both are left as they were.
-#[unsafe(no_mangle)]
-pub extern "C" fn distantarm_board_cycle(
+pub fn distantarm_board_cycle(
     units: &mut [u8],
     answer: &mut [u8],
     count: usize,
@@ -100,8 +97,7 @@ pub extern "C" fn distantarm_board_cycle(
 
 // The start of a recording: 0, the header of no record at the start of the buffer, and the count 0. A buffer that is too short for it gives 10 and
 // is left as it was; the count is 0 there too.
-#[unsafe(no_mangle)]
-pub extern "C" fn distantarm_record_start(trace: &mut [u8], count: &mut usize) -> u8
+pub fn distantarm_record_start(trace: &mut [u8], count: &mut usize) -> u8
     ensures { RecordingStarted trace.old trace.new count.new result }
 {
     let given = trace_writer::record_start(trace);
@@ -111,8 +107,7 @@ pub extern "C" fn distantarm_record_start(trace: &mut [u8], count: &mut usize) -
 
 // One cycle more in a recording of `count` records: 0, its record behind them, the header of one record more, and one more in `count`. Where a
 // number says no, the buffer and the count are as they were.
-#[unsafe(no_mangle)]
-pub extern "C" fn distantarm_record(
+pub fn distantarm_record(
     trace: &mut [u8],
     count: &mut usize,
     status: u8,
@@ -148,8 +143,7 @@ pub extern "C" fn distantarm_record(
 
 // The text of a trace, as mmurun prints it, and its length. A buffer that is shorter than text::listing::ROOM is left as it was, and the answer
 // is 0.
-#[unsafe(no_mangle)]
-pub extern "C" fn distantarm_list(trace: &[u8], text: &mut [u8]) -> usize
+pub fn distantarm_list(trace: &[u8], text: &mut [u8]) -> usize
     ensures { Listed trace.now text.old text.new result }
 {
     text::listing::list(trace, text)
