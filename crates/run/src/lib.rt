@@ -25,7 +25,7 @@ fn cycle_at(trace: &[u8], n: usize) -> Cycle
 }
 
 // The first `count` records, answered into the buffer. The turn ends with the change of the table in place.
-#[tactic(auto, using(crate::proofs::Turns::unit_at, crate::proofs::Turns::cycle_at, crate::proofs::Turns::unit_turned, crate::proofs::Turns::answer_stored), unfolding(crate::specs::Run::ran_to, trace_records::specs::Trace::cycles_to, rules::specs::Runs::answers, rules::specs::Runs::final, unit_packed::specs::Packed::packed_all, rules::specs::Step::changed, rules::specs::Step::decision))]
+#[tactic(auto, unfolding(crate::specs::Run::ran_to))]
 fn run_to(trace: &[u8], count: usize, out: &mut [u8])
     requires { (count ≤ format1.most) × (record_start format1 count ≤ length trace.now) × (width * count ≤ length out.old) }
     ensures { out.new ≡ ran_to trace.now count out.old }
