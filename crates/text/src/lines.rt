@@ -38,7 +38,6 @@ fn put_line(out: &mut [u8], at: usize, n: usize, packed: &[u8]) -> usize
 }
 
 // The lines of all records, from their packed answers.
-#[tactic(auto, using(crate::proofs::Turns::lines_from, crate::proofs::Turns::from_start, crate::proofs::Turns::from_end, crate::proofs::Turns::turn))]
 pub fn put_lines(packed: &[u8], count: usize, out: &mut [u8], at: usize) -> usize
     requires { (width * count ≤ length packed.now) × (at + line_room * count ≤ length out.old) × (count ≤ decimals) }
     ensures put { Put out.old at (lines_of 0 count packed.now) out.new result }
