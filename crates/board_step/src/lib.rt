@@ -19,6 +19,7 @@ struct All {
 }
 
 // The first `count` units, judged.
+#[tactic(auto, using(board_rules::proofs::Ahead::rest, board_rules::proofs::Ahead::rest_none, board_refusals::proofs::Laws::known, crate::proofs::Turns::judge_turn))]
 fn judge_all(units: [Unit; Board::UNITS], count: usize, c: Cycle, selects: u16) -> Judged
     requires { count ≤ 16 }
     ensures { Known result c (seated (take count units) selects) }
@@ -36,6 +37,7 @@ fn judge_all(units: [Unit; Board::UNITS], count: usize, c: Cycle, selects: u16) 
 }
 
 // The first `count` units, each stepped alone. That there are sixteen is said for the caller: a board that has a count has a unit.
+#[tactic(auto, using(board_rules::proofs::Ahead::rest, board_rules::proofs::Ahead::rest_none, board_rules::proofs::Ahead::Ahead, board_rules::proofs::Ahead::ahead_turn, board_rules::proofs::Ahead::agree_at, board_rules::proofs::Ahead::agree_turn, board_rules::proofs::Ahead::whole, crate::proofs::Turns::join_turn))]
 fn step_all(units: [Unit; Board::UNITS], count: usize, c: Cycle, selects: u16) -> All
     requires { count ≤ 16 }
     ensures { (result.units ≡ map (afterwards c) (seated (take count units) selects) ++ drop count units)
@@ -62,6 +64,7 @@ fn step_all(units: [Unit; Board::UNITS], count: usize, c: Cycle, selects: u16) -
 }
 
 // The board after a cycle, and its answer.
+#[tactic(auto, using(theorems_boards::proofs::Numbers::good_count, crate::proofs::Ends::wrong_end, crate::proofs::Ends::refused_end, crate::proofs::Ends::stepped_end))]
 pub fn step_board(b: Board, c: BoardCycle) -> BoardStepped
     ensures { result ≡ board_stepped b c }
 {
