@@ -12,12 +12,10 @@ pub fn line_end(script: &[u8], from: usize) -> usize
     requires { from ≤ length script.now }
     ensures { (from ≤ result) × (result ≤ length script.now) }
 {
-    let mut i = from;
-    while i < script.len() {
+    for i in from..script.len() {
         if script[i] == b'\n' {
             return i;
         }
-        i += 1;
     }
-    i
+    script.len()
 }
