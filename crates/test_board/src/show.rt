@@ -24,12 +24,10 @@ pub fn answer(out: Stdout, packed: &[u8; board_packed::BYTES]) {
 
 // Whether two units' bytes differ from an index up to another.
 fn differ(old: &[u8], new: &[u8], from: usize, to: usize) -> bool {
-    let mut i = from;
-    while i < to {
+    for i in from..to {
         if byte_at(old, i) != byte_at(new, i) {
             return true;
         }
-        i += 1;
     }
     false
 }

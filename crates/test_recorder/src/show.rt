@@ -37,10 +37,8 @@ fn change(out: Stdout, i: u16, old: u8, new: u8) {
 
 // Each byte below an index that has changed.
 fn changes(out: Stdout, old: &[u8], new: &[u8], end: u16) {
-    let mut i = 0;
-    while i < end {
+    for i in 0..end {
         change(out, i, byte_at(old, i as usize), byte_at(new, i as usize));
-        i += 1;
     }
 }
 
