@@ -22,6 +22,7 @@ use unit_stores::NO_ROOM;
 const NO_SAR: u8 = 64;
 
 // The registers of a unit's bytes. Strange notes are no unit's: its registers are judged as damaged ones.
+#[tactic(auto, unfolding(crate::specs::Boarded::held_registers))]
 fn held_registers(unit: &[u8]) -> Registers
     requires { unit_size ≤ length unit.now }
     ensures { result ≡ held_registers unit.now }
@@ -35,6 +36,7 @@ fn held_registers(unit: &[u8]) -> Registers
 }
 
 // The first `count` units, judged.
+#[tactic(auto, using(board_refusals::proofs::Laws::known, crate::proofs::Turns::rest, crate::proofs::Turns::cut_is, crate::proofs::Turns::rest_all, crate::proofs::Turns::rest_none, crate::proofs::Turns::judge_turn), unfolding(board_rules::specs::Board::seated))]
 fn judge_all(units: &[u8], count: usize, c: Cycle, selects: u16) -> Judged
     requires { (count ≤ 16) × (unit_size * count ≤ length units.now) }
     ensures { Known result c (seats_in units.now count selects) }
@@ -53,6 +55,7 @@ fn judge_all(units: &[u8], count: usize, c: Cycle, selects: u16) -> Judged
 }
 
 // The first `count` units, each stepped alone in its bytes, and what they answered.
+#[tactic(auto, using(unit_bytes::proofs::InPlace::in_place_answers, crate::proofs::Turns::rest, crate::proofs::Turns::cut_is, crate::proofs::Turns::rest_all, crate::proofs::Turns::rest_none, crate::proofs::Turns::join_turn, crate::proofs::Turns::nearly, crate::proofs::Turns::nearly_all, crate::proofs::Turns::nearly_none, crate::proofs::Turns::nearly_turn, crate::proofs::Turns::put, crate::proofs::Turns::done, crate::proofs::Turns::done_long), unfolding(board_rules::specs::Board::seated))]
 fn step_all(units: &mut [u8], count: usize, c: Cycle, selects: u16) -> Joint
     requires { (count ≤ 16) × (unit_size * count ≤ length units.old) }
     ensures { (units.new ≡ stepped_in c count selects units.old)
@@ -72,6 +75,7 @@ fn step_all(units: &mut [u8], count: usize, c: Cycle, selects: u16) -> Joint
 }
 
 // The board's cycle, its count being good and its units having room.
+#[tactic(auto, using(crate::proofs::Ends::refused_ends, crate::proofs::Ends::stepped_ends))]
 fn cycled(units: &mut [u8], count: usize, c: Cycle, selects: u16) -> BoardAnswer
     requires { (1 ≤ count) × (count ≤ 16) × (unit_size * count ≤ length units.old) }
     ensures { (result ≡ seats_answer c (seats_in units.old count selects))
@@ -100,6 +104,7 @@ fn show(answer: &mut [u8], a: BoardAnswer) -> u8
 
 // One cycle: the packed answer in the one buffer, the units after the cycle in the other, and 0 or the number of the refusal. Where a buffer
 // is too short it gives NO_ROOM, and both are left as they were; a wrong count does not ask the units' room.
+#[tactic(auto, using(theorems_boards::proofs::Numbers::good_count, crate::proofs::Ends::short_end, crate::proofs::Ends::wrong_end, crate::proofs::Ends::narrow_end, crate::proofs::Ends::cycle_end))]
 pub fn cycle(units: &mut [u8], answer: &mut [u8], count: usize, c: Cycle, selects: u16) -> u8
     ensures { Boarded (record { cycle = c; selects = selects }) count
         units.old answer.old units.new answer.new result }
