@@ -36,7 +36,6 @@ fn held_registers(unit: &[u8]) -> Registers
 }
 
 // The first `count` units, judged.
-#[tactic(auto, using(board_refusals::proofs::Laws::known, crate::proofs::Turns::rest, crate::proofs::Turns::cut_is, crate::proofs::Turns::rest_all, crate::proofs::Turns::rest_none, crate::proofs::Turns::judge_turn), unfolding(board_rules::specs::Board::seated))]
 fn judge_all(units: &[u8], count: usize, c: Cycle, selects: u16) -> Judged
     requires { (count ≤ 16) × (unit_size * count ≤ length units.now) }
     ensures { Known result c (seats_in units.now count selects) }
@@ -55,7 +54,6 @@ fn judge_all(units: &[u8], count: usize, c: Cycle, selects: u16) -> Judged
 }
 
 // The first `count` units, each stepped alone in its bytes, and what they answered.
-#[tactic(auto, using(unit_bytes::proofs::InPlace::in_place_answers, crate::proofs::Turns::rest, crate::proofs::Turns::cut_is, crate::proofs::Turns::rest_all, crate::proofs::Turns::rest_none, crate::proofs::Turns::join_turn, crate::proofs::Turns::nearly, crate::proofs::Turns::nearly_all, crate::proofs::Turns::nearly_none, crate::proofs::Turns::nearly_turn, crate::proofs::Turns::put, crate::proofs::Turns::done, crate::proofs::Turns::done_long), unfolding(board_rules::specs::Board::seated))]
 fn step_all(units: &mut [u8], count: usize, c: Cycle, selects: u16) -> Joint
     requires { (count ≤ 16) × (unit_size * count ≤ length units.old) }
     ensures { (units.new ≡ stepped_in c count selects units.old)
