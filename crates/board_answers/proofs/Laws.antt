@@ -19,7 +19,7 @@ use Rattle.theorems_boards.specs.Numbers.{seat_commanded}
 use Rattle.theorems_boards.proofs.Exactly.{letter-aborted, some_same}
 use Rattle.theorems_boards.proofs.Forms.{Accepted, accepted_form}
 use Rattle.theorems_boards.proofs.Lists.{every_imp, some_ext, some_map}
-use Rattle.board_answers.specs.Joint.{nothing, takes, joining, quietly, nobody_in, told, Whole, ahead}
+use Rattle.board_answers.specs.Joint.{nothing, takes, joining, quietly, nobody_in, told, Whole, held, ahead}
 use Rattle.board_answers.specs.declared.Joint.{Joint}
 
 -- one answer more is joined as the next of the answers
@@ -55,7 +55,28 @@ joined_turn t i x xs =
         × ((ahead (joining t i x) (suc i) xs).named ≡ (ahead t i (x ∷ xs)).named)
     go true y e f = ((λ b. rw e refl), rw e refl, rw e refl, rw e refl)
     go false true e f = ((λ b. rw (e, f) refl), rw (e, f) refl, rw (e, f) refl, rw (e, f) refl)
-    go false false e f = ((λ b. rw (e, f) refl), rw (e, f) refl, rw (e, f) refl, rw (e, f) refl)
+    go false false e f = ((λ b. rw (e, f) refl), address, distance, rw (e, f) refl)
+      where
+        -- x does not drive, so what is held stays, and is handed on to the answers behind it
+        stays : takes t x ≡ false
+        stays = rw (e, f) refl
+
+        passes : driver (held t) (x ∷ xs) ≡ driver (held t) xs
+        passes = ap (λ (b : Bool). cond b x (driver (held t) xs)) f
+
+        address : (ahead (joining t i x) (suc i) xs).address ≡ (ahead t i (x ∷ xs)).address
+        address =
+            ap (λ (b : Bool). cond (cond b x.address t.address).driven (cond b x.address t.address)
+                (driver (record { kind = Ignored; address = cond b x.address t.address; sup = false; trap = false; drives = false; byte = 0;
+                    distance = cond b x.distance t.distance }) xs).address) stays
+            ∙ ap (λ (a : Answer). cond t.address.driven t.address a.address) (sym passes)
+
+        distance : (ahead (joining t i x) (suc i) xs).distance ≡ (ahead t i (x ∷ xs)).distance
+        distance =
+            ap (λ (b : Bool). cond (cond b x.address t.address).driven (cond b x.distance t.distance)
+                (driver (record { kind = Ignored; address = cond b x.address t.address; sup = false; trap = false; drives = false; byte = 0;
+                    distance = cond b x.distance t.distance }) xs).distance) stays
+            ∙ ap (λ (a : Answer). cond t.address.driven t.distance a.distance) (sym passes)
 
 -- a unit that shows its request and nothing else
 pub quiet_turn : (t : Joint) (i : ℕ) (request : Bool) → joining t i (silent Ignored request) ≡ quietly t request

@@ -60,6 +60,7 @@ fn aborts(k: Kind) -> bool
 }
 
 // One answer more, of unit i. The first unit that drives is the one that is kept.
+#[tactic(auto, unfolding(crate::specs::Joint::joining))]
 pub fn join(t: Joint, i: u8, x: Answer) -> Joint
     ensures { result ≡ joining t i x }
 {

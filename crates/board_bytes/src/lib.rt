@@ -22,6 +22,7 @@ use unit_stores::NO_ROOM;
 const NO_SAR: u8 = 64;
 
 // The registers of a unit's bytes. Strange notes are no unit's: its registers are judged as damaged ones.
+#[tactic(auto, unfolding(crate::specs::Boarded::held_registers))]
 fn held_registers(unit: &[u8]) -> Registers
     requires { unit_size ≤ length unit.now }
     ensures { result ≡ held_registers unit.now }
@@ -72,6 +73,7 @@ fn step_all(units: &mut [u8], count: usize, c: Cycle, selects: u16) -> Joint
 }
 
 // The board's cycle, its count being good and its units having room.
+#[tactic(auto, using(crate::proofs::Ends::refused_ends, crate::proofs::Ends::stepped_ends))]
 fn cycled(units: &mut [u8], count: usize, c: Cycle, selects: u16) -> BoardAnswer
     requires { (1 ≤ count) × (count ≤ 16) × (unit_size * count ≤ length units.old) }
     ensures { (result ≡ seats_answer c (seats_in units.old count selects))
@@ -100,6 +102,7 @@ fn show(answer: &mut [u8], a: BoardAnswer) -> u8
 
 // One cycle: the packed answer in the one buffer, the units after the cycle in the other, and 0 or the number of the refusal. Where a buffer
 // is too short it gives NO_ROOM, and both are left as they were; a wrong count does not ask the units' room.
+#[tactic(auto, using(theorems_boards::proofs::Numbers::good_count, crate::proofs::Ends::short_end, crate::proofs::Ends::wrong_end, crate::proofs::Ends::narrow_end, crate::proofs::Ends::cycle_end))]
 pub fn cycle(units: &mut [u8], answer: &mut [u8], count: usize, c: Cycle, selects: u16) -> u8
     ensures { Boarded (record { cycle = c; selects = selects }) count
         units.old answer.old units.new answer.new result }

@@ -121,6 +121,7 @@ pub fn unjudged() -> Judged
 }
 
 // One unit more, unit i.
+#[tactic(auto, unfolding(crate::specs::Judged::judging))]
 pub fn judge(j: Judged, i: u8, r: Registers, select: bool, c: Cycle, q: Asked) -> Judged
     ensures { result ≡ judging j i r select c q }
 {

@@ -62,6 +62,7 @@ fn step_all(units: [Unit; Board::UNITS], count: usize, c: Cycle, selects: u16) -
 }
 
 // The board after a cycle, and its answer.
+#[tactic(auto, using(theorems_boards::proofs::Numbers::good_count, crate::proofs::Ends::wrong_end, crate::proofs::Ends::refused_end, crate::proofs::Ends::stepped_end))]
 pub fn step_board(b: Board, c: BoardCycle) -> BoardStepped
     ensures { result ≡ board_stepped b c }
 {

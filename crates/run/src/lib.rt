@@ -25,6 +25,7 @@ fn cycle_at(trace: &[u8], n: usize) -> Cycle
 }
 
 // The first `count` records, answered into the buffer. The turn ends with the change of the table in place.
+#[tactic(auto, unfolding(crate::specs::Run::ran_to))]
 fn run_to(trace: &[u8], count: usize, out: &mut [u8])
     requires { (count ≤ format1.most) × (record_start format1 count ≤ length trace.now) × (width * count ≤ length out.old) }
     ensures { out.new ≡ ran_to trace.now count out.old }
@@ -56,6 +57,7 @@ fn run_to(trace: &[u8], count: usize, out: &mut [u8])
 
 // The run of a trace from power-on: 0, and the answers of all records, packed, at the start of the buffer. A refused trace
 // gives its number, a buffer that is too short gives NO_ROOM, and both leave the buffer as it was.
+#[tactic(auto, using(crate::proofs::Ends::fits, crate::proofs::Ends::run_ends), unfolding(crate::specs::Run::ran_to))]
 pub fn run(trace: &[u8], out: &mut [u8]) -> u8
     ensures { Ran trace.now out.old out.new result }
 {

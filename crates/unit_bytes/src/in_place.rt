@@ -8,6 +8,7 @@ use crate::snapshot;
 use rules::{Answer, Change, Cycle, Registers, Unit};
 
 // The registers' bytes stored, the low byte too.
+#[tactic(auto, unfolding(crate::specs::InPlace::put_registers))]
 fn put_registers(unit: &mut [u8], r: Registers)
     requires { unit_size ≤ length unit.old }
     ensures { unit.new ≡ put_registers r unit.old }
@@ -17,6 +18,7 @@ fn put_registers(unit: &mut [u8], r: Registers)
 }
 
 // Flags set in the attributes of every descriptor.
+#[tactic(auto, unfolding(crate::specs::InPlace::raised_in))]
 fn raised(unit: &mut [u8], mask: u8)
     requires { unit_size ≤ length unit.old }
     ensures { unit.new ≡ raised_in mask segments unit.old }
@@ -28,6 +30,7 @@ fn raised(unit: &mut [u8], mask: u8)
 }
 
 // A change at a place, stored: a descriptor there, or flags in all of them.
+#[tactic(auto, unfolding(crate::specs::InPlace::put_change))]
 fn put_change(unit: &mut [u8], h: Change, i: usize)
     requires { (unit_size ≤ length unit.old) × (i < segments) }
     ensures { unit.new ≡ put_change h i unit.old }
@@ -44,6 +47,7 @@ fn put_change(unit: &mut [u8], h: Change, i: usize)
 }
 
 // One cycle of the unit in the bytes, in place: the registers and at most the descriptors that change are written.
+#[tactic(auto, unfolding(crate::specs::InPlace::looked_at, crate::specs::InPlace::decided_in, crate::specs::InPlace::in_place))]
 pub fn stepped(unit: &mut [u8], c: Cycle) -> Answer
     requires { unit_size ≤ length unit.old }
     ensures { (result ≡ (decided_in unit.old c).answer) × (unit.new ≡ in_place unit.old c) }

@@ -68,6 +68,7 @@ pub fn descriptor_in(bytes: &[u8], at: usize) -> Descriptor
 }
 
 // The table of a unit's bytes.
+#[tactic(auto, using(crate::proofs::Tables::descriptor_read_lem), unfolding(crate::specs::Snapshot::table_in))]
 fn table_in(bytes: &[u8]) -> [Descriptor; Unit::DESCRIPTORS]
     requires { unit_size ≤ length bytes.now }
     ensures { result ≡ table_in bytes.now segments }
@@ -97,6 +98,7 @@ fn notes_in(byte: u8) -> Notes
 }
 
 // The registers of a unit's bytes.
+#[tactic(auto, unfolding(crate::specs::Snapshot::registers_in))]
 pub fn registers_in(bytes: &[u8]) -> Registers
     requires { unit_size ≤ length bytes.now }
     ensures { result ≡ registers_in bytes.now }
@@ -123,6 +125,7 @@ pub fn registers_in(bytes: &[u8]) -> Registers
 }
 
 // The unit of its bytes.
+#[tactic(auto, unfolding(crate::specs::Snapshot::unit_in))]
 pub fn unit_in(bytes: &[u8]) -> Unit
     requires { unit_size ≤ length bytes.now }
     ensures { result ≡ unit_in bytes.now }
@@ -145,6 +148,7 @@ pub fn put_descriptor(out: &mut [u8], at: usize, d: Descriptor)
 }
 
 // What stands behind the registers and the notes, stored at its place: a table's bytes, and the low byte.
+#[tactic(auto, using(crate::proofs::Tables::descriptor_stored, crate::proofs::Tables::low_stored), unfolding(crate::specs::Snapshot::table_bytes))]
 fn put_behind(out: &mut [u8], table: [Descriptor; Unit::DESCRIPTORS], low: u8)
     requires { unit_size ≤ length out.old }
     ensures { out.new ≡ sets out.old table_at (table_bytes table ++ (low ∷ [])) }
@@ -157,6 +161,7 @@ fn put_behind(out: &mut [u8], table: [Descriptor; Unit::DESCRIPTORS], low: u8)
 }
 
 // The notes in a byte.
+#[tactic(auto, unfolding(crate::specs::Snapshot::notes_byte))]
 fn notes_byte(n: Notes) -> u8
     ensures { result ≡ notes_byte n }
 {
@@ -167,6 +172,7 @@ fn notes_byte(n: Notes) -> u8
 }
 
 // The registers' bytes stored at the start, all but the low byte.
+#[tactic(auto, unfolding(crate::specs::Snapshot::register_bytes))]
 pub fn put_registers(out: &mut [u8], r: Registers)
     requires { table_at ≤ length out.old }
     ensures { out.new ≡ sets out.old 0 (register_bytes r) }
@@ -186,6 +192,7 @@ pub fn put_registers(out: &mut [u8], r: Registers)
 }
 
 // A unit's bytes stored at the start.
+#[tactic(auto, unfolding(crate::specs::Snapshot::unit_bytes, crate::specs::Snapshot::register_bytes))]
 pub fn put_unit(out: &mut [u8], u: Unit)
     requires { unit_size ≤ length out.old }
     ensures { out.new ≡ sets out.old 0 (unit_bytes u) }

@@ -16,7 +16,7 @@ pub fn with_flags(d: Descriptor, mask: u8) -> Descriptor
 }
 
 // Flags set in every descriptor.
-#[tactic(auto, using(crate::proofs::Prefix::up_to, crate::proofs::Prefix::up_to_suc, crate::proofs::Prefix::up_to_all))]
+#[tactic(auto, using(crate::proofs::Prefix::up_to_suc, crate::proofs::Prefix::up_to_all))]
 pub fn with_flags_in_all(
     t: [Descriptor; Unit::DESCRIPTORS],
     mask: u8,
