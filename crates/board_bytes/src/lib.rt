@@ -22,6 +22,7 @@ use unit_stores::NO_ROOM;
 const NO_SAR: u8 = 64;
 
 // The registers of a unit's bytes. Strange notes are no unit's: its registers are judged as damaged ones.
+#[tactic(auto, unfolding(crate::specs::Boarded::held_registers))]
 fn held_registers(unit: &[u8]) -> Registers
     requires { unit_size ≤ length unit.now }
     ensures { result ≡ held_registers unit.now }

@@ -19,7 +19,6 @@ struct All {
 }
 
 // The first `count` units, judged.
-#[tactic(auto, using(board_rules::proofs::Ahead::rest, board_rules::proofs::Ahead::rest_none, board_refusals::proofs::Laws::known, crate::proofs::Turns::judge_turn))]
 fn judge_all(units: [Unit; Board::UNITS], count: usize, c: Cycle, selects: u16) -> Judged
     requires { count ≤ 16 }
     ensures { Known result c (seated (take count units) selects) }
@@ -37,7 +36,6 @@ fn judge_all(units: [Unit; Board::UNITS], count: usize, c: Cycle, selects: u16) 
 }
 
 // The first `count` units, each stepped alone. That there are sixteen is said for the caller: a board that has a count has a unit.
-#[tactic(auto, using(board_rules::proofs::Ahead::rest, board_rules::proofs::Ahead::rest_none, board_rules::proofs::Ahead::Ahead, board_rules::proofs::Ahead::ahead_turn, board_rules::proofs::Ahead::agree_at, board_rules::proofs::Ahead::agree_turn, board_rules::proofs::Ahead::whole, crate::proofs::Turns::join_turn))]
 fn step_all(units: [Unit; Board::UNITS], count: usize, c: Cycle, selects: u16) -> All
     requires { count ≤ 16 }
     ensures { (result.units ≡ map (afterwards c) (seated (take count units) selects) ++ drop count units)

@@ -11,7 +11,7 @@ use crate::numbers::{put_dashes, put_decimal, put_hex};
 use unit_stores::put;
 
 // A kind's letter, and its number unless that is 0.
-#[tactic(auto, using(unit_stores::proofs::Laws::then), unfolding(crate::specs::Fields::kind_text))]
+#[tactic(auto, unfolding(crate::specs::Fields::kind_text))]
 pub fn put_kind(out: &mut [u8], at: usize, letter: u8, number: u8) -> usize
     requires { at + kind_room ≤ length out.old }
     ensures put { Put out.old at (kind_text letter number) out.new result }
@@ -26,7 +26,7 @@ pub fn put_kind(out: &mut [u8], at: usize, letter: u8, number: u8) -> usize
 }
 
 // A record's number and its kind.
-#[tactic(auto, using(unit_stores::proofs::Laws::then), unfolding(crate::specs::Fields::opening))]
+#[tactic(auto, unfolding(crate::specs::Fields::opening))]
 pub fn put_opening(out: &mut [u8], at: usize, n: usize, letter: u8, number: u8) -> usize
     requires { (at + opening_room ≤ length out.old) × (n < decimals) }
     ensures put { Put out.old at (opening n letter number) out.new result }
@@ -39,7 +39,7 @@ pub fn put_opening(out: &mut [u8], at: usize, n: usize, letter: u8, number: u8) 
 }
 
 // The address lines, or dashes.
-#[tactic(auto, using(unit_stores::proofs::Laws::then), unfolding(crate::specs::Fields::address_text))]
+#[tactic(auto, unfolding(crate::specs::Fields::address_text))]
 pub fn put_address(out: &mut [u8], at: usize, driven: bool, high: u8, low: u8) -> usize
     requires { at + address_room ≤ length out.old }
     ensures put { Put out.old at (address_text driven high low) out.new result }
@@ -74,7 +74,7 @@ fn bit_text(on: bool) -> u8
 }
 
 // SUP, the request and the data byte, by an answer's flags, and the space after each.
-#[tactic(auto, using(unit_stores::proofs::Laws::then), unfolding(crate::specs::Fields::signals))]
+#[tactic(auto, unfolding(crate::specs::Fields::signals))]
 pub fn put_signals(out: &mut [u8], at: usize, flags: u8, byte: u8) -> usize
     requires { at + signals_room ≤ length out.old }
     ensures put { Put out.old at (signals (has flags SUP) (has flags TRAP) (has flags DRIVES) byte) out.new result }
@@ -91,7 +91,7 @@ pub fn put_signals(out: &mut [u8], at: usize, flags: u8, byte: u8) -> usize
 }
 
 // The distance, and the end of a line.
-#[tactic(auto, using(unit_stores::proofs::Laws::then), unfolding(crate::specs::Fields::ending))]
+#[tactic(auto, unfolding(crate::specs::Fields::ending))]
 pub fn put_ending(out: &mut [u8], at: usize, distance: u8) -> usize
     requires { at + ending_room ≤ length out.old }
     ensures put { Put out.old at (ending distance) out.new result }

@@ -17,7 +17,7 @@ pub const HEAD: usize = 12;
 pub const LINE: usize = 31;
 
 // A record's line, from its packed answer.
-#[tactic(auto, using(unit_stores::proofs::Laws::then), unfolding(crate::specs::Lines::line_of))]
+#[tactic(auto, unfolding(crate::specs::Lines::line_of))]
 fn put_line(out: &mut [u8], at: usize, n: usize, packed: &[u8]) -> usize
     requires { (at + line_room ≤ length out.old) × (n < decimals) × (length packed.now ≡ width) }
     ensures put { Put out.old at (line_of n packed.now) out.new result }
@@ -52,7 +52,6 @@ pub fn put_lines(packed: &[u8], count: usize, out: &mut [u8], at: usize) -> usiz
 }
 
 // What the first line has before the count: mark and version, and a space after each.
-#[tactic(auto, using(unit_stores::proofs::Laws::then))]
 fn put_mark(out: &mut [u8]) -> usize
     requires { head_room ≤ length out.old }
     ensures put { Put out.old 0 mark_text out.new result }
@@ -67,7 +66,7 @@ fn put_mark(out: &mut [u8]) -> usize
 }
 
 // The first line.
-#[tactic(auto, using(unit_stores::proofs::Laws::then), unfolding(crate::specs::Fields::head_text))]
+#[tactic(auto, unfolding(crate::specs::Fields::head_text))]
 pub fn put_head(out: &mut [u8], count: usize) -> usize
     requires { (head_room ≤ length out.old) × (count < decimals) }
     ensures put { Put out.old 0 (head_text count) out.new result }
@@ -79,7 +78,7 @@ pub fn put_head(out: &mut [u8], count: usize) -> usize
 }
 
 // The only line of a refused trace.
-#[tactic(auto, using(unit_stores::proofs::Laws::then), unfolding(crate::specs::Fields::refusal_text))]
+#[tactic(auto, unfolding(crate::specs::Fields::refusal_text))]
 pub fn put_refusal(out: &mut [u8], number: u8) -> usize
     requires { head_room ≤ length out.old }
     ensures put { Put out.old 0 (refusal_text number) out.new result }

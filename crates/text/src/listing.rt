@@ -19,7 +19,6 @@ fn zeros() -> [u8; run::ROOM]
 
 // Fills the buffer with the text of the trace, and answers the text's length. A buffer that is shorter than ROOM is left as it was, and
 // the answer is 0.
-#[tactic(auto, using(unit_stores::proofs::Laws::then, run::proofs::Ends::fits, run::proofs::Ends::with_room, crate::proofs::Whole::taken_text, crate::proofs::Whole::too_short))]
 pub fn list(trace: &[u8], out: &mut [u8]) -> usize
     ensures listed { Listed trace.now out.old out.new result }
     ensures counts { Counts result out.new }

@@ -6,7 +6,6 @@ ghost use Rattle.text.specs.Digits.{decimal_room, decimals, place_text, decimal,
 use unit_stores::put;
 
 // A decimal digit where the number reaches its place.
-#[tactic(auto, using(unit_stores::proofs::Laws::nothing))]
 fn put_place(out: &mut [u8], at: usize, reached: bool, d: usize) -> usize
     requires { (at < length out.old) × (d < 10) }
     ensures put { Put out.old at (place_text reached d) out.new result }
@@ -19,7 +18,7 @@ fn put_place(out: &mut [u8], at: usize, reached: bool, d: usize) -> usize
 }
 
 // A number below 100,000 in decimal, with no zero in front. The digits say the number: those of 100,000 would not.
-#[tactic(auto, using(unit_stores::proofs::Laws::then), unfolding(crate::specs::Digits::decimal))]
+#[tactic(auto, unfolding(crate::specs::Digits::decimal))]
 pub fn put_decimal(out: &mut [u8], at: usize, n: usize) -> usize
     requires { (at + decimal_room ≤ length out.old) × (n < decimals) }
     ensures put { Put out.old at (decimal n) out.new result }
@@ -43,7 +42,6 @@ fn digit(d: u8) -> u8
 }
 
 // Two capital hexadecimal digits.
-#[tactic(auto, using(unit_stores::proofs::Laws::then))]
 pub fn put_hex(out: &mut [u8], at: usize, n: u8) -> usize
     requires { at + hex_room ≤ length out.old }
     ensures put { Put out.old at (hex_text n) out.new result }
@@ -56,7 +54,6 @@ pub fn put_hex(out: &mut [u8], at: usize, n: u8) -> usize
 }
 
 // Two dashes.
-#[tactic(auto, using(unit_stores::proofs::Laws::then))]
 pub fn put_dashes(out: &mut [u8], at: usize) -> usize
     requires { at + hex_room ≤ length out.old }
     ensures put { Put out.old at dashes out.new result }

@@ -55,7 +55,7 @@ fn put_record(trace: &mut [u8], at: usize, c: Cycle)
 
 // The number that refuses a cycle at a count, in a buffer of so many bytes, or 0. "The count with this cycle" may be past all numbers of a usize,
 // so the bound is held to the count without it.
-#[tactic(auto, using(crate::proofs::Ends::passes), unfolding(crate::specs::Writing::record_number))]
+#[tactic(auto, unfolding(crate::specs::Writing::record_number))]
 fn refusal(bytes: usize, count: usize, c: Cycle) -> u8
     ensures { result ≡ record_number bytes count c }
 {

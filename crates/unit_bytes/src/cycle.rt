@@ -20,7 +20,6 @@ fn show(answer: &mut [u8], a: Answer) -> u8
 }
 
 // One cycle of the unit in the bytes, both buffers having room.
-#[tactic(auto, using(crate::proofs::Ends::cycle_ends))]
 pub fn cycled(unit: &mut [u8], answer: &mut [u8], c: Cycle) -> u8
     requires { (unit_size ≤ length unit.old) × (width ≤ length answer.old) }
     ensures { Cycled false c unit.old answer.old unit.new answer.new result }

@@ -68,7 +68,7 @@ pub fn descriptor_in(bytes: &[u8], at: usize) -> Descriptor
 }
 
 // The table of a unit's bytes.
-#[tactic(auto, using(crate::proofs::Tables::descriptor_read_lem), unfolding(crate::specs::Snapshot::table_in))]
+#[tactic(auto, unfolding(crate::specs::Snapshot::table_in))]
 fn table_in(bytes: &[u8]) -> [Descriptor; Unit::DESCRIPTORS]
     requires { unit_size ≤ length bytes.now }
     ensures { result ≡ table_in bytes.now segments }

@@ -17,7 +17,7 @@ pub fn reset_by(select: bool, r: Registers) -> Decision
 }
 
 // The byte that an acknowledge drives: 2^ID while the request stands, else 0.
-#[tactic(auto, using(rules::proofs::Bounds::one_bit_lem), unfolding(rules::specs::Status::acknowledge_byte))]
+#[tactic(auto, unfolding(rules::specs::Status::acknowledge_byte))]
 fn acknowledge_byte(r: Registers) -> u8
     ensures { result ≡ acknowledge_byte r }
 {

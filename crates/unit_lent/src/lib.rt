@@ -7,7 +7,6 @@ use rules::{Answer, Cycle, Stepped, Unit};
 use unit_step::step::step;
 
 // One cycle of a unit that the caller lends: its answer, with the unit after the cycle in its place. A refusal leaves what stood there.
-#[tactic(auto, using(crate::proofs::Values::unit_val, crate::proofs::Values::cycle_val, crate::proofs::Values::answer_val, crate::proofs::Values::CycleIs, crate::proofs::Values::unit_of_lem, crate::proofs::Values::answer_of_lem))]
 pub fn step_in_place(u: &mut Unit, c: Cycle) -> Answer
     ensures { (result ≡ (stepped u.old c).answer) × (u.new ≡ (stepped u.old c).unit) }
 {
@@ -17,7 +16,6 @@ pub fn step_in_place(u: &mut Unit, c: Cycle) -> Answer
 }
 
 // A unit kept in a local and lent for one cycle. Its parameters are plain, so whoever calls it needs no proof by hand.
-#[tactic(auto, using(crate::proofs::Values::unit_val, crate::proofs::Values::cycle_val, crate::proofs::Values::stepped_val, crate::proofs::Values::UnitIs, crate::proofs::Values::CycleIs, crate::proofs::Values::AnswerIs, crate::proofs::Values::answer_spelled, crate::proofs::Values::both, crate::proofs::Values::both_is))]
 pub fn step_by_lending(u: Unit, c: Cycle) -> Stepped
     ensures { result ≡ stepped u c }
 {
