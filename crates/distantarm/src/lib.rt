@@ -9,6 +9,7 @@ use rules::{Cycle, Unit};
 use unit_stores::NO_ROOM;
 
 // The unit at power-on: 0, and its bytes at the start of the buffer. A buffer that is too short gives NO_ROOM and is left as it was.
+#[tactic(auto, using(crate::proofs::Ends::powered))]
 pub fn distantarm_power_on(unit: &mut [u8]) -> u8
     ensures { PoweredOn unit.old unit.new result }
 {
@@ -23,6 +24,7 @@ pub fn distantarm_power_on(unit: &mut [u8]) -> u8
 
 // One cycle: the packed answer in the one buffer, the unit after the cycle in the other, and 0 or the number of the refusal. Where a
 // buffer is too short it gives NO_ROOM, and both are left as they were.
+#[tactic(auto, using(theorems_runs::proofs::Tests::or_l, theorems_runs::proofs::Tests::or_r, crate::proofs::Ends::roomy))]
 pub fn distantarm_cycle(
     unit: &mut [u8],
     answer: &mut [u8],
