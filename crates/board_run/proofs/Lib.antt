@@ -3,6 +3,7 @@ pub mod Flat
 pub mod Classes
 pub mod Plans
 pub mod Back
+pub mod Selects
 pub mod Stepping
 pub mod Boards
 pub mod Turns

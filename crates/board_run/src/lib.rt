@@ -1,6 +1,7 @@
 // A run of a board from power-on over records, its answers packed in a lent buffer: registers and tables are locals, and each record is judged
 // from the registers before any unit is touched.
 #![tactic(auto)]
+
 ghost use Rattle.std.specs.Prelude.{◌≡◌, false, cond, ◌+◌, ◌*◌, ◌≤◌, length};
 ghost use mir.Val.{bool_byte};
 ghost use Rattle.rules.specs.Refusals.{damaged, out_of_range};
@@ -83,7 +84,6 @@ fn cycle_at(records: &[u8], at: usize) -> BoardCycle
 }
 
 // Flags set in every descriptor of unit i.
-#[tactic(auto, using(unit_step::proofs::Prefix::up_to, unit_step::proofs::Prefix::up_to_suc, unit_step::proofs::Prefix::up_to_all, crate::proofs::Flat::table_here, crate::proofs::Flat::table_there, crate::proofs::Flat::table_long, crate::proofs::Flat::descriptor_at_lem))]
 fn raised(tables: [Descriptor; ALL], i: usize, mask: u8) -> [Descriptor; ALL]
     requires { i + 1 ≤ 16 }
     ensures { RaisedIn mask i tables result }
@@ -105,7 +105,6 @@ fn bit(on: bool) -> u32
 }
 
 // The units that a memory cycle may concern, from the last to the first, so that the first has the lowest bit.
-#[tactic(auto, using(crate::proofs::Back::lower, crate::proofs::Back::higher, crate::proofs::Back::lowest, crate::proofs::Back::power_positive, crate::proofs::Back::mask_bound, crate::proofs::Back::mask_fits, crate::proofs::Back::driving_none, crate::proofs::Back::driving_turn))]
 fn driving(registers: [Registers; Board::UNITS], count: usize, c: Cycle) -> Drivers
     requires { count ≤ 16 }
     ensures { DrivingIs registers count c result }
@@ -131,7 +130,6 @@ fn driving(registers: [Registers; Board::UNITS], count: usize, c: Cycle) -> Driv
 }
 
 // The selects of the first `count` units.
-#[tactic(auto, unfolding(crate::specs::Plan::any_on, crate::specs::Plan::several_on, crate::specs::Plan::first_on))]
 fn selected(selects: u16, count: usize) -> Chosen
     requires { count ≤ 16 }
     ensures { (result.some ≡ any_on count selects) × (result.several ≡ several_on count selects)
@@ -156,7 +154,7 @@ fn selected(selects: u16, count: usize) -> Chosen
 }
 
 // A request stands in a unit.
-#[tactic(auto, using(crate::proofs::Back::lower, crate::proofs::Back::higher, crate::proofs::Back::lowest, crate::proofs::Back::asks_turn), unfolding(crate::specs::Plan::asks_from))]
+#[tactic(auto, unfolding(crate::specs::Plan::asks_from))]
 fn asks(registers: [Registers; Board::UNITS], count: usize) -> bool
     requires { count ≤ 16 }
     ensures { result ≡ any_asks registers count }
@@ -187,7 +185,6 @@ fn uncommanded(clash: bool) -> Judged
 }
 
 // What is to be done for a cycle that is in range, by units that are undamaged.
-#[tactic(auto, using(theorems_boards::proofs::Lists::seats_length, crate::proofs::Classes::Class, crate::proofs::Classes::all_class, crate::proofs::Classes::memory_class, crate::proofs::Classes::command_class, crate::proofs::Plans::uncommanded_known, crate::proofs::Plans::clash_none, crate::proofs::Plans::clash_is, crate::proofs::Plans::command_known), unfolding(crate::specs::Plan::PlanIs))]
 fn plan(registers: [Registers; Board::UNITS], count: usize, c: Cycle, selects: u16) -> Prepared
     requires { count ≤ 16 }
     ensures { PlanIs registers count c selects result.mask result.judged }
@@ -259,7 +256,6 @@ fn act(r: Registers, d: Descriptor, c: Cycle) -> Decision
 
 // The first `cycles` records, answered into the buffer, by a board of `count` units. There is one call of `act` in it: the compiler then writes
 // its code here.
-#[tactic(auto, using(theorems_boards::proofs::Units::board_from_power_on, crate::proofs::Flat::stored_changed, crate::proofs::Stepping::Stepping, crate::proofs::Stepping::stepping_begins, crate::proofs::Stepping::stepping_ends, crate::proofs::Stepping::turn_off, crate::proofs::Stepping::admitted_now, crate::proofs::Stepping::turn_by, crate::proofs::Stepping::by_change, crate::proofs::Boards::board_of, crate::proofs::Boards::in_range, crate::proofs::Boards::healthy, crate::proofs::Boards::refused_board, crate::proofs::Boards::accepted_board, crate::proofs::Boards::stepped_board, crate::proofs::Turns::board_at, crate::proofs::Turns::turn_ends, crate::proofs::Turns::board_begins), unfolding(crate::specs::Plan::PlanIs, crate::specs::BoardRun::board_ran_to, crate::specs::BoardRun::board_cycles_to, board_rules::specs::Board::board_answers, board_rules::specs::Board::board_final, board_packed::specs::BoardPacked::board_packed_all, rules::specs::Step::changed))]
 fn run_to(records: &[u8], count: usize, cycles: usize, out: &mut [u8])
     requires { (1 ≤ count) × (count ≤ 16) × (cycles ≤ most) × (record_size * cycles ≤ length records.now) × (board_width * cycles ≤ length out.old) }
     ensures { out.new ≡ board_ran_to records.now count cycles out.old }
@@ -336,7 +332,6 @@ fn refuse_to(cycles: usize, out: &mut [u8])
 
 // A board of `count` units at power-on, run over the records: as many as there are whole records, as the buffer has room for their answers, and
 // no more than MOST. The answer is their number.
-#[tactic(auto, using(theorems_boards::proofs::Numbers::good_count, crate::proofs::Ends::lesser_second, crate::proofs::Ends::cycles_fit, crate::proofs::Turns::refused_all))]
 pub fn run(records: &[u8], count: u8, out: &mut [u8]) -> usize
     ensures { (result ≡ cycles_for (length records.now) (length out.old))
         × (out.new ≡ board_ran_to records.now count result out.old) }

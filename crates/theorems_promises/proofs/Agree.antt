@@ -6,6 +6,7 @@ use mathlib.Core.Path.{◌≡◌, sym, ap, ◌∙◌}
 use Prim.Native.Nat.{ℕ, ◌+◌}
 use contract.Lifetimes.{Lfts}
 use borrow.Fn.Kinds.{Dens, res_t, ended_of}
+use denote.MutBor.{MutBor}
 use denote.Ref.{Bor}
 use denote.Triple.Clauses.{AtExit}
 use lib.Dec.{eqb, ltb}
@@ -134,7 +135,7 @@ abbrev pub handed : Cycle → ℕ × (Bool × (Bool × (Bool × (Bool × (ℕ ×
 handed c = (c.status, (c.read, (c.normal, (c.dma, (c.select, (c.segment, (c.offset, (c.low, (c.byte, (c.reset, tt))))))))))
 
 -- a cycle of the unit in the bytes, where there is room and the notes are a unit's
-pub distantarm_cycle_agrees : (κs : Lfts 2) (κ₀ : Lfts 0) (u v : Bor (List ℕ)) (c : Cycle) (s : Stepped) (x : ℕ)
+pub distantarm_cycle_agrees : (κs : Lfts 2) (κ₀ : Lfts 0) (u v : MutBor (List ℕ)) (c : Cycle) (s : Stepped) (x : ℕ)
     (e : AtExit (ended_of 0 step-k.ps step-k.r) κ₀) (f : AtExit (ended_of 2 distantarm-cycle-k.ps distantarm-cycle-k.r) κs)
     → (ltb (length u.now) unit_size || ltb (length v.now) width) ≡ false → ltb LAST_NOTES (get_or u.now notes_at 0) ≡ false
     → step.Learnt κ₀ (unit_in u.now, (c, tt)) s e
@@ -157,7 +158,7 @@ handed_board c =
     let b : Cycle = c.cycle in
     (b.status, (b.read, (b.normal, (b.dma, (b.segment, (b.offset, (b.low, (b.byte, (b.reset, (c.selects, tt))))))))))
 
-pub distantarm_board_cycle_agrees : (κs : Lfts 2) (u v : Bor (List ℕ)) (count : ℕ) (c : BoardCycle) (x y : ℕ)
+pub distantarm_board_cycle_agrees : (κs : Lfts 2) (u v : MutBor (List ℕ)) (count : ℕ) (c : BoardCycle) (x y : ℕ)
     (e : AtExit (ended_of 2 cycle-k.ps cycle-k.r) κs) (f : AtExit (ended_of 2 distantarm-board-cycle-k.ps distantarm-board-cycle-k.r) κs)
     → c.cycle.select ≡ false
     → cycle.Learnt κs (u, (v, (count, (c.cycle, (c.selects, tt))))) x e
@@ -174,7 +175,7 @@ distantarm_board_cycle_agrees κs u v count c x y e f off p q =
     )
 
 -- the start of a recording, whatever the count was, and a cycle of it: the number, the count and the buffer
-pub distantarm_record_start_agrees : (κs : Lfts 2) (κ₁ : Lfts 1) (t : Bor (List ℕ)) (count : Bor ℕ) (x : Recorded) (y : ℕ)
+pub distantarm_record_start_agrees : (κs : Lfts 2) (κ₁ : Lfts 1) (t : MutBor (List ℕ)) (count : MutBor ℕ) (x : Recorded) (y : ℕ)
     (e : AtExit (ended_of 1 record-start-k.ps record-start-k.r) κ₁)
     (f : AtExit (ended_of 2 distantarm-record-start-k.ps distantarm-record-start-k.r) κs)
     → record-start.Learnt κ₁ (t, tt) x e
@@ -182,7 +183,7 @@ pub distantarm_record_start_agrees : (κs : Lfts 2) (κ₁ : Lfts 1) (t : Bor (L
     → (x.number ≡ y) × (x.count ≡ f.1.0.now) × (e.0.now ≡ f.0.now)
 distantarm_record_start_agrees κs κ₁ t count x y e f p q = (cc, cc, cc)
 
-pub distantarm_record_agrees : (κs : Lfts 2) (κ₁ : Lfts 1) (t : Bor (List ℕ)) (count : Bor ℕ) (c : Cycle) (x : Recorded) (y : ℕ)
+pub distantarm_record_agrees : (κs : Lfts 2) (κ₁ : Lfts 1) (t : MutBor (List ℕ)) (count : MutBor ℕ) (c : Cycle) (x : Recorded) (y : ℕ)
     (e : AtExit (ended_of 1 record-cycle-k.ps record-cycle-k.r) κ₁) (f : AtExit (ended_of 2 distantarm-record-k.ps distantarm-record-k.r) κs)
     → record-cycle.Learnt κ₁ (t, (count.now, (c, tt))) x e
     → distantarm-record.Learnt κs (t, (count, handed c)) y f

@@ -4,8 +4,10 @@ use mathlib.Core.Bool.{Bool, true, false}
 use mathlib.Core.List.{List, [], ◌∷◌, ◌++◌}
 use mathlib.Core.Path.{◌≡◌, refl, ap, ◌∙◌}
 use Prim.Native.Nat.{ℕ, ◌+◌}
+use base.Fml.{GName}
 use contract.Lifetimes.{Lfts}
 use borrow.Fn.Kinds.{ended_of}
+use denote.MutBor.{MutBor}
 use denote.Ref.{Bor}
 use denote.Triple.Clauses.{AtExit}
 use lib.Dec.{ltb}
@@ -47,8 +49,12 @@ use Rattle.theorems_promises.proofs.Agree.{handed, handed_board}
 use Rattle.theorems_promises.proofs.Computed.{all_computed}
 
 -- a lent buffer, wherever it stands
-abbrev lent : ℕ × ℕ → ℕ → List ℕ → Bor (List ℕ)
+abbrev lent : ℕ × ℕ → GName → List ℕ → MutBor (List ℕ)
 lent p g l = record { ref_ptr = p; ghost_name = g; now = l }
+
+-- a lent trace, that is only read
+abbrev shared : ℕ × ℕ → List ℕ → Bor (List ℕ)
+shared p l = record { ref_ptr = p; now = l }
 
 -- segment 0 with the attributes, the others blank, and a low byte: what stands behind a unit's notes
 abbrev behind : (attributes low : ℕ) → List ℕ
@@ -69,28 +75,28 @@ abbrev board_read : BoardCycle
 board_read = record { cycle = data_read; selects = 0 }
 
 -- record 5: a system data read, 11 blocks from the edge. The eighth byte of the lent answer is left
-pub distantarm_cycle_known : (κs : Lfts 2) (p q : ℕ × ℕ) (g h x : ℕ) (e : AtExit (ended_of 2 distantarm-cycle-k.ps distantarm-cycle-k.r) κs)
+pub distantarm_cycle_known : (κs : Lfts 2) (p q : ℕ × ℕ) (g h : GName) (x : ℕ) (e : AtExit (ended_of 2 distantarm-cycle-k.ps distantarm-cycle-k.r) κs)
     → distantarm-cycle.Learnt κs (lent p g (turned_on 1), (lent q h (replicate 8 9), handed data_read)) x e
     → (x ≡ 0) × (e.0.now ≡ turned_on 129) × (e.1.0.now ≡ 84 ∷ 0 ∷ 35 ∷ 38 ∷ 1 ∷ 0 ∷ 11 ∷ 9 ∷ [])
 unfolding all_computed
 distantarm_cycle_known κs p q g h x e l = (l.says, l.leaves, l.shows)
 
 -- record 6: a normal data write, which RD forbids. VTR, VOFF, BCSR and the notes are stored, and the low byte over the older one
-pub distantarm_cycle_stores : (κs : Lfts 2) (p q : ℕ × ℕ) (g h x : ℕ) (e : AtExit (ended_of 2 distantarm-cycle-k.ps distantarm-cycle-k.r) κs)
+pub distantarm_cycle_stores : (κs : Lfts 2) (p q : ℕ × ℕ) (g h : GName) (x : ℕ) (e : AtExit (ended_of 2 distantarm-cycle-k.ps distantarm-cycle-k.r) κs)
     → distantarm-cycle.Learnt κs (lent p g (turned_on 129), (lent q h (replicate 7 9), handed data_write)) x e
     → (x ≡ 0) × (e.0.now ≡ 192 ∷ 0 ∷ 0 ∷ 1 ∷ 0 ∷ 21 ∷ 40 ∷ 0 ∷ 0 ∷ 15 ∷ behind 129 77) × (e.1.0.now ≡ 84 ∷ 0 ∷ 35 ∷ 38 ∷ 7 ∷ 0 ∷ 11 ∷ [])
 unfolding all_computed
 distantarm_cycle_stores κs p q g h x e l = (l.says, l.leaves, l.shows)
 
 -- notes that no unit has: refusal 2, and every byte of the unit is left
-pub distantarm_cycle_strange : (κs : Lfts 2) (p q : ℕ × ℕ) (g h x : ℕ) (e : AtExit (ended_of 2 distantarm-cycle-k.ps distantarm-cycle-k.r) κs)
+pub distantarm_cycle_strange : (κs : Lfts 2) (p q : ℕ × ℕ) (g h : GName) (x : ℕ) (e : AtExit (ended_of 2 distantarm-cycle-k.ps distantarm-cycle-k.r) κs)
     → distantarm-cycle.Learnt κs (lent p g (replicate 9 0 ++ (16 ∷ replicate 257 0)), (lent q h (replicate 7 9), handed data_read)) x e
     → (x ≡ 2) × (e.0.now ≡ replicate 9 0 ++ (16 ∷ replicate 257 0)) × (e.1.0.now ≡ 88 ∷ 2 ∷ 0 ∷ 0 ∷ 0 ∷ 0 ∷ 0 ∷ [])
 unfolding all_computed
 distantarm_cycle_strange κs p q g h x e l = (l.says, l.leaves, l.shows)
 
 -- the least room, and a byte less of either
-pub distantarm_cycle_room : (κs : Lfts 2) (p q : ℕ × ℕ) (g h x y z : ℕ)
+pub distantarm_cycle_room : (κs : Lfts 2) (p q : ℕ × ℕ) (g h : GName) (x y z : ℕ)
     (d e f : AtExit (ended_of 2 distantarm-cycle-k.ps distantarm-cycle-k.r) κs)
     → distantarm-cycle.Learnt κs (lent p g (replicate 267 0), (lent q h (replicate 7 9), handed data_read)) x d
     → distantarm-cycle.Learnt κs (lent p g (replicate 266 0), (lent q h (replicate 7 9), handed data_read)) y e
@@ -102,7 +108,7 @@ distantarm_cycle_room κs p q g h x y z d e f k l m = (k.says, (l.says, l.leaves
 
 -- a board of two units, the second of them switched off: unit 0 translates the same read, and is named. The ninth byte of the lent answer and
 -- the byte behind the units are left
-pub distantarm_board_cycle_known : (κs : Lfts 2) (p q : ℕ × ℕ) (g h x : ℕ)
+pub distantarm_board_cycle_known : (κs : Lfts 2) (p q : ℕ × ℕ) (g h : GName) (x : ℕ)
     (e : AtExit (ended_of 2 distantarm-board-cycle-k.ps distantarm-board-cycle-k.r) κs)
     → distantarm-board-cycle.Learnt κs (lent p g (turned_on 1 ++ (replicate 267 0 ++ (7 ∷ []))), (lent q h (replicate 9 9), (2, handed_board board_read))) x e
     → (x ≡ 0) × (e.0.now ≡ turned_on 129 ++ (replicate 267 0 ++ (7 ∷ [])))
@@ -112,7 +118,7 @@ distantarm_board_cycle_known κs p q g h x e l = (l.says, l.leaves, l.shows)
 
 -- both units switched on: 12, nobody is named, and every byte is left. A count of 17 is 11, with no room asked of the units; seven bytes for an
 -- answer, and a byte less of the units, are no room
-pub distantarm_board_cycle_refuses : (κs : Lfts 2) (p q : ℕ × ℕ) (g h w x y z : ℕ)
+pub distantarm_board_cycle_refuses : (κs : Lfts 2) (p q : ℕ × ℕ) (g h : GName) (w x y z : ℕ)
     (c d e f : AtExit (ended_of 2 distantarm-board-cycle-k.ps distantarm-board-cycle-k.r) κs)
     → distantarm-board-cycle.Learnt κs (lent p g (turned_on 1 ++ turned_on 1), (lent q h (replicate 8 9), (2, handed_board board_read))) w c
     → distantarm-board-cycle.Learnt κs (lent p g [], (lent q h (replicate 8 9), (17, handed_board board_read))) x d
@@ -126,11 +132,11 @@ distantarm_board_cycle_refuses κs p q g h w x y z c d e f i j k l =
     ((i.says, i.leaves, i.shows), (j.says, j.shows), (k.says, k.shows), (l.says, l.leaves))
 
 -- a lent count, wherever it stands
-abbrev counted : ℕ × ℕ → ℕ → ℕ → Bor ℕ
+abbrev counted : ℕ × ℕ → GName → ℕ → MutBor ℕ
 counted p g n = record { ref_ptr = p; ghost_name = g; now = n }
 
 -- a byte more than a header has, as many, and a byte less; the count was 5, and is 0
-pub distantarm_record_start_known : (κs : Lfts 2) (p q : ℕ × ℕ) (g h x y z : ℕ)
+pub distantarm_record_start_known : (κs : Lfts 2) (p q : ℕ × ℕ) (g h : GName) (x y z : ℕ)
     (d e f : AtExit (ended_of 2 distantarm-record-start-k.ps distantarm-record-start-k.r) κs)
     → distantarm-record-start.Learnt κs (lent p g (replicate 8 9), (counted q h 5, tt)) x d
     → distantarm-record-start.Learnt κs (lent p g (replicate 7 9), (counted q h 5, tt)) y e
@@ -144,7 +150,7 @@ distantarm_record_start_known κs p q g h x y z d e f k l m =
 
 -- the data write in a buffer of 9s, as the second record: the header says 2 records, the first and the byte behind are left, and the low byte,
 -- 77, is nowhere
-pub distantarm_record_known : (κs : Lfts 2) (p q : ℕ × ℕ) (g h x : ℕ) (e : AtExit (ended_of 2 distantarm-record-k.ps distantarm-record-k.r) κs)
+pub distantarm_record_known : (κs : Lfts 2) (p q : ℕ × ℕ) (g h : GName) (x : ℕ) (e : AtExit (ended_of 2 distantarm-record-k.ps distantarm-record-k.r) κs)
     → distantarm-record.Learnt κs (lent p g (replicate 16 9), (counted q h 1, handed data_write)) x e
     → (x ≡ 0) × (e.1.0.now ≡ 2)
     × (e.0.now ≡ 77 ∷ 66 ∷ 84 ∷ 0 ∷ 1 ∷ 0 ∷ 2 ∷ 9 ∷ 9 ∷ 9 ∷ 9 ∷ 40 ∷ 0 ∷ 21 ∷ 0 ∷ 9 ∷ [])
@@ -152,7 +158,7 @@ unfolding all_computed
 distantarm_record_known κs p q g h x e l = (l.says, l.counts, l.leaves)
 
 -- a status of 16, a full trace in a buffer without room, and a byte too few: 1, 7 and 10, and the buffer and the count are left
-pub distantarm_record_refuses : (κs : Lfts 2) (p q : ℕ × ℕ) (g h x y z : ℕ)
+pub distantarm_record_refuses : (κs : Lfts 2) (p q : ℕ × ℕ) (g h : GName) (x y z : ℕ)
     (d e f : AtExit (ended_of 2 distantarm-record-k.ps distantarm-record-k.r) κs)
     → distantarm-record.Learnt κs (lent p g (replicate 15 9), (counted q h 1, handed (cycle_with 16 true false false false 0 21 77 0 true))) x d
     → distantarm-record.Learnt κs (lent p g (replicate 15 9), (counted q h 16000, handed data_write)) y e
@@ -165,19 +171,19 @@ distantarm_record_refuses κs p q g h x y z d e f k l m =
     ((k.says, k.counts, k.leaves), (l.says, l.counts, l.leaves), (m.says, m.counts, m.leaves))
 
 -- the text of the sample, in a buffer with room, and in one without
-pub distantarm_list_known : (κs : Lfts 2) (p q : ℕ × ℕ) (g h x : ℕ) (l : List ℕ)
+pub distantarm_list_known : (κs : Lfts 2) (p q : ℕ × ℕ) (h : GName) (x : ℕ) (l : List ℕ)
     (e : AtExit (ended_of 2 distantarm-list-k.ps distantarm-list-k.r) κs)
-    → distantarm-list.Learnt κs (lent p g input, (lent q h l, tt)) x e
+    → distantarm-list.Learnt κs (shared p input, (lent q h l, tt)) x e
     → (ltb (length l) 496012 ≡ false → (x ≡ 172) × (e.1.0.now ≡ sets l 0 output))
     × (ltb (length l) 496012 ≡ true → (x ≡ 0) × (e.1.0.now ≡ l))
 unfolding all_computed
-distantarm_list_known κs p q g h x l e s = (
+distantarm_list_known κs p q h x l e s = (
   λ wide. (s.count ∙ ap (λ (b : Bool). length_of b input) wide, s.text ∙ ap (λ (b : Bool). filled b input l) wide),
   λ short. (s.count ∙ ap (λ (b : Bool). length_of b input) short, s.text ∙ ap (λ (b : Bool). filled b input l) short),
 )
 
 -- a byte more than a unit has, as many, and a byte less
-pub distantarm_power_on_known : (κs : Lfts 1) (p : ℕ × ℕ) (g x y z : ℕ)
+pub distantarm_power_on_known : (κs : Lfts 1) (p : ℕ × ℕ) (g : GName) (x y z : ℕ)
     (d e f : AtExit (ended_of 1 distantarm-power-on-k.ps distantarm-power-on-k.r) κs)
     → distantarm-power-on.Learnt κs (lent p g (replicate 268 9), tt) x d
     → distantarm-power-on.Learnt κs (lent p g (replicate 267 9), tt) y e
@@ -188,17 +194,17 @@ unfolding all_computed
 distantarm_power_on_known κs p g x y z d e f k l m = ((k.says, k.leaves), (l.says, l.leaves), (m.says, m.leaves))
 
 -- record 5 of the sample, and none past its count
-pub shown_at_known : (κs : Lfts 1) (p : ℕ × ℕ) (g : ℕ) (x y : Bor (List ℕ)) (e f : AtExit (ended_of 1 shown-at-k.ps shown-at-k.r) κs)
-    → shown-at.Learnt κs (lent p g input, (5, tt)) x e → shown-at.Learnt κs (lent p g input, (9, tt)) y f
+pub shown_at_known : (κs : Lfts 1) (p : ℕ × ℕ) (x y : Bor (List ℕ)) (e f : AtExit (ended_of 1 shown-at-k.ps shown-at-k.r) κs)
+    → shown-at.Learnt κs (shared p input, (5, tt)) x e → shown-at.Learnt κs (shared p input, (9, tt)) y f
     → (x.now ≡ 24 ∷ 0 ∷ 21 ∷ 0 ∷ []) × (x.ref_ptr ≡ (p.0, 27 + p.1)) × (y.now ≡ []) × (y.ref_ptr ≡ (p.0, 0 + p.1))
 unfolding all_computed
-shown_at_known κs p g x y e f l m = (l.0, l.1, m.0, m.1)
+shown_at_known κs p x y e f l m = (l.0, l.1, m.0, m.1)
 
-pub read_at_known : (κs : Lfts 1) (p : ℕ × ℕ) (g : ℕ) (x y : Found) (e f : AtExit (ended_of 1 read-at-k.ps read-at-k.r) κs)
-    → read_at.Learnt κs (lent p g input, (5, tt)) x e → read_at.Learnt κs (lent p g input, (9, tt)) y f
+pub read_at_known : (κs : Lfts 1) (p : ℕ × ℕ) (x y : Found) (e f : AtExit (ended_of 1 read-at-k.ps read-at-k.r) κs)
+    → read_at.Learnt κs (shared p input, (5, tt)) x e → read_at.Learnt κs (shared p input, (9, tt)) y f
     → (x ≡ record { step = Record (cycle_with 8 true false false false 0 21 0 0 false); next = 6 }) × (y ≡ record { step = No 9; next = 9 })
 unfolding all_computed
-read_at_known κs p g x y e f l m = (
+read_at_known κs p x y e f l m = (
   finds_only input 5 x (record { step = Record (cycle_with 8 true false false false 0 21 0 0 false); next = 6 }) l ((refl, refl), refl),
   finds_only input 9 y (record { step = No 9; next = 9 }) m ((refl, refl), refl),
 )

@@ -100,7 +100,7 @@ record_refusal_only κs a b x y e f s p q = cc
 
 pub part-only : Two 1 part-k.ps part-k.r part.Learnt
     (λ κs a b. (a.0.now ≡ b.0.now) × (a.1.0 ≡ b.1.0))
-    (λ κs a b x y e f. (x.now ≡ y.now) × (a.0.ptr ≡ b.0.ptr → x.ref_ptr ≡ y.ref_ptr))
+    (λ κs a b x y e f. (x.now ≡ y.now) × (a.0.ref_ptr ≡ b.0.ref_ptr → x.ref_ptr ≡ y.ref_ptr))
 part-only κs a b x y e f s p q = (cc, λ same. cc)
 
 -- A lent buffer: the answer, and the buffer whole
