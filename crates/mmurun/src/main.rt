@@ -1,8 +1,8 @@
 // mmurun: reads a trace from standard input, and writes the text that `text::listing` makes of it to standard output.
 #![tactic(auto)]
 
-ghost use Rattle.std.specs.Prelude.{◌≡◌, ◌≤◌, ℕ, List, length, true};
-ghost use Rattle.std.specs.Io.KnownBytes.{Appends, Consumes};
+ghost use Rattle.std.specs.Prelude.{◌≡◌, ◌≤◌, IfSome, length, true};
+ghost use Rattle.std.specs.Io.KnownBytes.{Appends};
 ghost use Rattle.std.proofs.lemmas.List.Edits.{sets};
 ghost use Rattle.text.specs.Listed.{text_room};
 ghost use Rattle.text.specs.Text.{printed};
@@ -35,17 +35,22 @@ fn room() -> [u8; text::listing::ROOM]
     [0; text::listing::ROOM]
 }
 
-// Reads a trace, writes its text, and tells whether all of it was written: the text is that of the bytes that the input gave, and nothing else is
-// written. The longest good trace has 64,007 bytes. Of a longer input the first 65,536 bytes are read, and their text is that of the whole (`cut`
-// in the proofs of `text`).
+// Reads a trace and writes its text. What is written is the text of the bytes that were read; and where the answer is yes, which says that no
+// read and no write failed, it is the text of the whole input, and nothing else. The longest good trace has 64,007 bytes: of a longer input the
+// first 65,536 bytes are read, and their text is that of the whole.
+#[tactic(auto, using(crate::proofs::Input::whole_input))]
 fn whole<R: Read, W: Write>(from: &mut R, out: &mut W) -> bool
-    ensures { (bytes : List ℕ) × Consumes (R.remaining from.old) (R.remaining from.new) bytes
-        × (result ≡ true → Appends (W.contents out.old) (W.contents out.new) (printed bytes)) }
+    ensures { result ≡ true → IfSome (R.remaining from.old) (λ trace.
+        Appends (W.contents out.old) (W.contents out.new) (printed trace)) }
 {
     let mut trace = streams::large_buffer();
-    let n = streams::read_full(from, &mut trace);
+    let taken = streams::read_full(from, &mut trace);
     let mut text = room();
-    show(out, &trace[..n], &mut text)
+    let written = show(out, &trace[..taken.count], &mut text);
+    if taken.failed {
+        return false;
+    }
+    written
 }
 
 fn main(rt: HostRuntime) {

@@ -2,8 +2,8 @@
 // could not be written is left out.
 #![tactic(auto)]
 
-ghost use Rattle.std.specs.Prelude.{◌≡◌, ◌≤◌, length, take, true, decimal};
-ghost use Rattle.std.specs.Io.KnownBytes.{Appends, Consumes};
+ghost use Rattle.std.specs.Prelude.{◌≡◌, ◌<◌, ◌≤◌, length, take, true, false, decimal};
+ghost use Rattle.std.specs.Io.KnownBytes.{Appends, Consumes, IsAtEnd};
 
 use std::io::{Read, Write};
 
@@ -14,22 +14,43 @@ pub fn large_buffer() -> [u8; 65536]
     [0; 65536]
 }
 
-// Reads until the buffer is full, the input ends or a read fails, and gives how many bytes it put at the start of the buffer: they are the
-// next of the input.
-pub fn read_full<R: Read>(from: &mut R, buffer: &mut [u8]) -> usize
-    ensures bound { result ≤ length buffer.new }
+// What `read_full` gives: how many bytes it put at the start of the buffer, and whether a read failed.
+#[derive(Clone, Copy)]
+pub struct Taken {
+    pub count: usize,
+    pub failed: bool,
+}
+
+// Reads until the buffer is full, the input ends or a read fails: what it put into the buffer are the next bytes of the input, and where no
+// read failed and the buffer is not full, they were the last.
+pub fn read_full<R: Read>(from: &mut R, buffer: &mut [u8]) -> Taken
+    ensures bound { result.count ≤ length buffer.new }
     ensures kept { length buffer.new ≡ length buffer.old }
-    ensures bytes { Consumes (R.remaining from.old) (R.remaining from.new) (take result buffer.new) }
+    ensures bytes { Consumes (R.remaining from.old) (R.remaining from.new) (take result.count buffer.new) }
+    ensures end { result.failed ≡ false → result.count < length buffer.new → IsAtEnd (R.remaining from.new) }
 {
-    let mut done = 0;
-    while done < buffer.len() {
-        match from.read(&mut buffer[done..]) {
-            Ok(0) => return done,
-            Ok(n) => done += n,
-            Err(_) => return done,
+    let mut count = 0;
+    while count < buffer.len() {
+        match from.read(&mut buffer[count..]) {
+            Ok(0) => {
+                return Taken {
+                    count,
+                    failed: false,
+                };
+            }
+            Ok(n) => count += n,
+            Err(_) => {
+                return Taken {
+                    count,
+                    failed: true,
+                };
+            }
         }
     }
-    done
+    Taken {
+        count,
+        failed: false,
+    }
 }
 
 // Writes the bytes, and tells whether all of them were written; where writing fails, the rest is left out.

@@ -41,7 +41,7 @@ fn room() -> [u8; ROOM] {
 
 fn main(rt: HostRuntime) {
     let mut records = input();
-    let n = streams::read_full(&mut rt.stdin(), &mut records);
+    let n = streams::read_full(&mut rt.stdin(), &mut records).count;
     let mut answers = room();
     show(rt.stdout(), &records[..n], &mut answers);
 }

@@ -99,6 +99,6 @@ fn whole(out: Stdout, trace: &[u8]) {
 
 fn main(rt: HostRuntime) {
     let mut trace = streams::large_buffer();
-    let n = streams::read_full(&mut rt.stdin(), &mut trace);
+    let n = streams::read_full(&mut rt.stdin(), &mut trace).count;
     whole(rt.stdout(), &trace[..n]);
 }

@@ -140,6 +140,6 @@ fn replay(out: Stdout, script: &[u8]) {
 // At most 65,536 bytes are read; of a longer script the rest is left.
 fn main(rt: HostRuntime) {
     let mut script = streams::large_buffer();
-    let n = streams::read_full(&mut rt.stdin(), &mut script);
+    let n = streams::read_full(&mut rt.stdin(), &mut script).count;
     replay(rt.stdout(), &script[..n]);
 }

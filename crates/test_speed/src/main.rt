@@ -35,7 +35,7 @@ fn room() -> [u8; run::ROOM] {
 // The buffer has room for more than the longest good trace, so that a longer one is refused.
 fn main(rt: HostRuntime) {
     let mut trace = streams::large_buffer();
-    let n = streams::read_full(&mut rt.stdin(), &mut trace);
+    let n = streams::read_full(&mut rt.stdin(), &mut trace).count;
     let mut answers = room();
     show(rt.stdout(), &trace[..n], &mut answers);
 }
