@@ -2,6 +2,7 @@
 // stepped where they stand, a recorder of cycles in a buffer that the caller keeps, and the text of a whole trace. It keeps no state, and no call
 // asks anything of its caller. `distantarm_c` exports these functions, and `include/distantarm.h` declares them for C.
 #![tactic(auto)]
+
 ghost use Rattle.text.specs.Listed.{Listed};
 ghost use Rattle.distantarm.specs.Interface.{PoweredOn, Called, given, BoardCalled, board_given, RecordingStarted, CycleRecorded};
 
@@ -24,7 +25,7 @@ pub fn distantarm_power_on(unit: &mut [u8]) -> u8
 
 // One cycle: the packed answer in the one buffer, the unit after the cycle in the other, and 0 or the number of the refusal. Where a
 // buffer is too short it gives NO_ROOM, and both are left as they were.
-#[tactic(auto, using(theorems_runs::proofs::Tests::or_l, theorems_runs::proofs::Tests::or_r, crate::proofs::Ends::roomy))]
+#[tactic(auto, using(crate::proofs::Ends::roomy))]
 pub fn distantarm_cycle(
     unit: &mut [u8],
     answer: &mut [u8],

@@ -2,7 +2,7 @@
 // could not be written is left out.
 #![tactic(auto)]
 
-ghost use Rattle.std.specs.Prelude.{◌≡◌, ◌≤◌, length, take, true};
+ghost use Rattle.std.specs.Prelude.{◌≡◌, ◌≤◌, length, take, true, decimal};
 ghost use Rattle.std.specs.Io.KnownBytes.{Appends, Consumes};
 
 use std::io::{Read, Write};
@@ -39,7 +39,9 @@ pub fn write_all<W: Write>(to: &mut W, bytes: &[u8]) -> bool
     to.write_all(bytes).is_ok()
 }
 
-// Writes a number in decimal digits, and tells whether it was written.
-pub fn print_decimal<W: Write>(to: &mut W, n: u64) -> bool {
-    write!(to, "{n}").is_ok()
+// Writes a number in decimal digits, and tells whether all of them were written.
+pub fn print_decimal<W: Write>(to: &mut W, n: u64) -> bool
+    ensures { result ≡ true → Appends (W.contents to.old) (W.contents to.new) (decimal n) }
+{
+    to.write_fmt(n).is_ok()
 }
