@@ -1,16 +1,16 @@
 // mmurun: reads a trace from standard input, and writes the text that `text::listing` makes of it to standard output.
 #![tactic(auto)]
 
-ghost use Rattle.std.specs.Prelude.{◌≡◌, ◌≤◌, length, true};
-ghost use Rattle.std.specs.Io.KnownBytes.{Appends};
+ghost use Rattle.std.specs.Prelude.{◌≡◌, ◌≤◌, ℕ, List, length, true};
+ghost use Rattle.std.specs.Io.KnownBytes.{Appends, Consumes};
 ghost use Rattle.std.proofs.lemmas.List.Edits.{sets};
 ghost use Rattle.text.specs.Listed.{text_room};
 ghost use Rattle.text.specs.Text.{printed};
 
-use std::io::Write;
+use std::io::{Read, Write};
 
 // Writes the text of the trace, and asks that it is that: so this call can hand on nothing else, and no other writes. Where standard output is closed or
-// fails, the rest is not written, and the program ends.
+// fails, the rest is not written, and the program ends. It tells whether all was written.
 fn write_text<W: Write>(out: &mut W, trace: &[u8], text: &[u8]) -> bool
     requires { text.now ≡ printed trace.now }
     ensures { result ≡ true → Appends (W.contents out.old) (W.contents out.new) (printed trace.now) }
@@ -18,7 +18,7 @@ fn write_text<W: Write>(out: &mut W, trace: &[u8], text: &[u8]) -> bool
     streams::write_all(out, text)
 }
 
-// Writes the text of the trace by way of `text`, which holds it afterwards.
+// Writes the text of the trace by way of `text`, which holds it afterwards, and tells whether all was written.
 fn show<W: Write>(out: &mut W, trace: &[u8], text: &mut [u8]) -> bool
     requires { text_room ≤ length text.old }
     ensures held { text.new ≡ sets text.old 0 (printed trace.now) }
@@ -35,11 +35,19 @@ fn room() -> [u8; text::listing::ROOM]
     [0; text::listing::ROOM]
 }
 
-// The longest good trace has 64,007 bytes. Of a longer input the first 65,536 bytes are read, and their text is that of the whole
-// (`cut` in the proofs of `text`).
-fn main(rt: HostRuntime) {
+// Reads a trace, writes its text, and tells whether all of it was written: the text is that of the bytes that the input gave, and nothing else is
+// written. The longest good trace has 64,007 bytes. Of a longer input the first 65,536 bytes are read, and their text is that of the whole (`cut`
+// in the proofs of `text`).
+fn whole<R: Read, W: Write>(from: &mut R, out: &mut W) -> bool
+    ensures { (bytes : List ℕ) × Consumes (R.remaining from.old) (R.remaining from.new) bytes
+        × (result ≡ true → Appends (W.contents out.old) (W.contents out.new) (printed bytes)) }
+{
     let mut trace = streams::large_buffer();
-    let n = streams::read_full(&mut rt.stdin(), &mut trace);
+    let n = streams::read_full(from, &mut trace);
     let mut text = room();
-    show(&mut rt.stdout(), &trace[..n], &mut text);
+    show(out, &trace[..n], &mut text)
+}
+
+fn main(rt: HostRuntime) {
+    whole(&mut rt.stdin(), &mut rt.stdout());
 }
