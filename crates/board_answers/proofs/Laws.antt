@@ -67,15 +67,29 @@ joined_turn t i x xs =
         address : (ahead (joining t i x) (suc i) xs).address ≡ (ahead t i (x ∷ xs)).address
         address =
             ap (λ (b : Bool). cond (cond b x.address t.address).driven (cond b x.address t.address)
-                (driver (record { kind = Ignored; address = cond b x.address t.address; sup = false; trap = false; drives = false; byte = 0;
-                    distance = cond b x.distance t.distance }) xs).address) stays
+            (driver (record {
+              kind = Ignored;
+              address = cond b x.address t.address;
+              sup = false;
+              trap = false;
+              drives = false;
+              byte = 0;
+              distance = cond b x.distance t.distance;
+            }) xs).address) stays
             ∙ ap (λ (a : Answer). cond t.address.driven t.address a.address) (sym passes)
 
         distance : (ahead (joining t i x) (suc i) xs).distance ≡ (ahead t i (x ∷ xs)).distance
         distance =
             ap (λ (b : Bool). cond (cond b x.address t.address).driven (cond b x.distance t.distance)
-                (driver (record { kind = Ignored; address = cond b x.address t.address; sup = false; trap = false; drives = false; byte = 0;
-                    distance = cond b x.distance t.distance }) xs).distance) stays
+            (driver (record {
+              kind = Ignored;
+              address = cond b x.address t.address;
+              sup = false;
+              trap = false;
+              drives = false;
+              byte = 0;
+              distance = cond b x.distance t.distance;
+            }) xs).distance) stays
             ∙ ap (λ (a : Answer). cond t.address.driven t.distance a.distance) (sym passes)
 
 -- a unit that shows its request and nothing else

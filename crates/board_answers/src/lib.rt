@@ -1,5 +1,6 @@
 // Ticket 3's joined lines: what a board answers that does not refuse, from the answers of its units, one after another.
 #![tactic(auto)]
+
 ghost use Rattle.std.specs.Prelude.{◌≡◌, cond};
 ghost use Rattle.theorems_runs.specs.Answers.{is_aborted};
 ghost use Rattle.board_rules.specs.Board.{kind_by};

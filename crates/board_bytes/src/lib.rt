@@ -1,6 +1,7 @@
 // One cycle of a board whose units are kept in bytes that the caller lends, one unit's behind another's. All units are judged before any is
 // touched, and each is stepped where it stands, so nobody copies 4 KB a cycle.
 #![tactic(auto)]
+
 ghost use Rattle.std.specs.Prelude.{◌≡◌, false, map, [], ◌*◌, ◌≤◌, length};
 ghost use Rattle.std.proofs.lemmas.List.Edits.{sets};
 ghost use Rattle.rules.specs.Kinds.{number_of};

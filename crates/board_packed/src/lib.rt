@@ -1,5 +1,6 @@
 // A board's answer packed in bytes: the answer as a unit's is, and behind it the unit that is named.
 #![tactic(auto)]
+
 ghost use Rattle.std.specs.Prelude.{◌≡◌, ◌+◌, ◌≤◌, length};
 ghost use Rattle.std.proofs.lemmas.List.Edits.{sets};
 ghost use Rattle.board_packed.specs.BoardPacked.{board_width, named_byte, board_packed};

@@ -1,5 +1,6 @@
 // Ticket 3's refusals: what a board refuses, judged from the registers of its units, one after another, before any unit is touched.
 #![tactic(auto)]
+
 ghost use Rattle.std.specs.Prelude.{◌≡◌};
 ghost use Rattle.board_rules.specs.Board.{refusing};
 ghost use Rattle.theorems_boards.specs.Numbers.{may_drive};

@@ -1,6 +1,7 @@
 // A board of 1 to 16 units, its cycle and its answer: the types that ticket 3's rules, in specs/, speak of, and the
 // cycle as one unit sees it.
 #![tactic(auto)]
+
 ghost use Rattle.std.specs.Prelude.{◌≡◌};
 ghost use Rattle.board_rules.specs.Board.{seen_by};
 

@@ -1,5 +1,6 @@
 // One cycle of a board, by value: all units are judged, and only where the board does not refuse is any of them stepped.
 #![tactic(auto)]
+
 ghost use Rattle.std.specs.Prelude.{◌≡◌, map, [], ◌++◌, ◌≤◌, length, take, drop};
 ghost use Rattle.board_rules.specs.Board.{seated, answer_of, afterwards, board_stepped};
 ghost use Rattle.board_answers.specs.Joint.{nothing, ahead};

@@ -1,5 +1,6 @@
 // Document 01, "Commands": %08 to %0F, which move one byte of the descriptor at SAR.
 #![tactic(auto)]
+
 ghost use Rattle.std.specs.Prelude.{◌≡◌};
 ghost use Rattle.rules.specs.Entry.{byte_of, replaced, index_of, next_counter, next_segment, moved, written_by};
 

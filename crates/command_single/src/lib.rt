@@ -1,5 +1,6 @@
 // Document 01, "Commands": each command by itself.
 #![tactic(auto)]
+
 ghost use Rattle.std.specs.Prelude.{◌≡◌, cond, ◌%◌};
 ghost use Rattle.rules.specs.Commands.{replied, register_of, restarted, programmed, entry, acted};
 

@@ -1,5 +1,6 @@
 // Document 01, "Fetch" and "Checks": what is decided in a memory cycle.
 #![tactic(auto)]
+
 ghost use Rattle.std.specs.Prelude.{◌≡◌};
 ghost use Rattle.rules.specs.Memory.{accessed, through, memory};
 

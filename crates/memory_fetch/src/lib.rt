@@ -1,5 +1,6 @@
 // Document 01, "Fetch": when an instruction starts, and what it clears.
 #![tactic(auto)]
+
 ghost use Rattle.std.specs.Prelude.{◌≡◌};
 ghost use Rattle.rules.specs.Bus.{fetch};
 ghost use Rattle.rules.specs.Memory.{begun, resumed};

@@ -1,5 +1,6 @@
 // Document 01, "Checks": the length of a translated cycle's segment, how many blocks remain to its edge, and the warning at the edge of a stack.
 #![tactic(auto)]
+
 ghost use Rattle.std.specs.Prelude.{◌≡◌};
 ghost use Rattle.rules.specs.Checks.{out_of_length, distance_of, warns};
 

@@ -1,5 +1,6 @@
 // Document 01, "Fetch" and "SUP": what a memory cycle comes to: aborted, not translated, or checked.
 #![tactic(auto)]
+
 ghost use Rattle.std.specs.Prelude.{◌≡◌};
 ghost use Rattle.rules.specs.Memory.{aborted, untranslated, checked};
 

@@ -1,5 +1,6 @@
 // Document 01, "Recording": what a CPU cycle that violates or warns leaves in the VTR, its companions and the notes.
 #![tactic(auto)]
+
 ghost use Rattle.std.specs.Prelude.{◌≡◌};
 ghost use Rattle.rules.specs.Recording.{event_of, bus_status, first_entry, added, raised, recorded};
 

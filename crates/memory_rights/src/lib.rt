@@ -1,5 +1,6 @@
 // Document 01, "Checks": the rights of a translated cycle.
 #![tactic(auto)]
+
 ghost use Rattle.std.specs.Prelude.{◌≡◌};
 ghost use Rattle.rules.specs.Checks.{rights_of};
 

@@ -1,5 +1,6 @@
 // Document 01, the last paragraph of "Recording": REF and CHG, ISN and IOFF, hold.
 #![tactic(auto)]
+
 ghost use Rattle.std.specs.Prelude.{◌≡◌};
 ghost use Rattle.rules.specs.Memory.{touched, touched_by, noted};
 

@@ -1,5 +1,6 @@
 // Document 01, "Translation": how a memory cycle goes through the unit, and the address lines.
 #![tactic(auto)]
+
 ghost use Rattle.std.specs.Prelude.{◌≡◌};
 ghost use Rattle.rules.specs.Translation.{way_of, block_of, address_of};
 

@@ -1,5 +1,6 @@
 // The unit, its cycle and its answer: the types that the rules of specs/ speak of, the constants that belong to the unit, and power-on.
 #![tactic(auto)]
+
 ghost use Rattle.std.specs.Prelude.{◌≡◌};
 ghost use Rattle.rules.specs.PowerOn.{power_on};
 

@@ -1,5 +1,6 @@
 // Answers: all are made here but the acknowledge's (`unit_dispatch::status`). And the kind of an answer as a letter and a number.
 #![tactic(auto)]
+
 ghost use Rattle.std.specs.Prelude.{◌≡◌};
 ghost use Rattle.rules.specs.Replies.{seen, spoken, plain, refused};
 ghost use Rattle.rules.specs.Kinds.{letter_of, number_of};

@@ -1,5 +1,6 @@
 // Flags of a byte, where a condition says whether they stand.
 #![tactic(auto)]
+
 ghost use Rattle.std.specs.Prelude.{◌≡◌, cond};
 ghost use Rattle.rules.specs.Flags.{flag_if};
 

@@ -1,6 +1,7 @@
 // The registers with some of them as said and the rest as it was. They are rebuilt field by field: a group that is copied whole is
 // packed into one word and taken apart again by shifts in the built program.
 #![tactic(auto)]
+
 ghost use Rattle.std.specs.Prelude.{◌≡◌};
 ghost use Rattle.rules.specs.PowerOn.{notes_of};
 ghost use Rattle.rules.specs.Registers.{with_control, with_vtr, with_notes};

@@ -1,5 +1,6 @@
 // The run of a trace from power-on: the table and the registers are locals, and each record is one call of `act`.
 #![tactic(auto)]
+
 ghost use Rattle.std.specs.Prelude.{◌≡◌, ◌*◌, ◌+◌, ◌≤◌, length};
 ghost use Rattle.unit_packed.specs.Packed.{width};
 ghost use Rattle.trace_header.specs.Header.{format1, record_start};

@@ -98,10 +98,10 @@ record_refusal_only κs a b x y e f s p q = cc
 
 -- A part of it: its bytes, and its place where the trace stands in one place
 
-pub part-only : Two 1 part-k.ps part-k.r part.Learnt
+pub part_only : Two 1 part-k.ps part-k.r part.Learnt
     (λ κs a b. (a.0.now ≡ b.0.now) × (a.1.0 ≡ b.1.0))
     (λ κs a b x y e f. (x.now ≡ y.now) × (a.0.ref_ptr ≡ b.0.ref_ptr → x.ref_ptr ≡ y.ref_ptr))
-part-only κs a b x y e f s p q = (cc, λ same. cc)
+part_only κs a b x y e f s p q = (cc, λ same. cc)
 
 -- A lent buffer: the answer, and the buffer whole
 

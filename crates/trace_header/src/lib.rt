@@ -1,5 +1,6 @@
 // The header of a trace, and the numbers that refuse a trace. No public call asks anything of the trace that it is lent.
 #![tactic(auto)]
+
 ghost use Rattle.std.specs.Prelude.{◌≡◌, ◌<◌, get_or};
 ghost use Rattle.unit_stores.specs.Word.{word_values, word_at};
 ghost use Rattle.trace_header.specs.Header.{head_size, marked, count_of, refusal_of};

@@ -1,5 +1,6 @@
 // A trace reader: the lent trace and the number of its next record, kept together, with few thin functions over the crate `trace_records`.
 #![tactic(auto)]
+
 ghost use Rattle.std.specs.Prelude.{◌≡◌};
 ghost use Rattle.trace_records.specs.Trace.{Shows};
 ghost use Rattle.trace_reader.specs.Reading.{start_of, Answers, Finds, moved_of};

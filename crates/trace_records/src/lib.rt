@@ -1,5 +1,6 @@
 // The records of a trace and their cycles. No call asks anything of the trace or the part that it is lent.
 #![tactic(auto)]
+
 ghost use Rattle.std.specs.Prelude.{◌≡◌};
 ghost use Rattle.trace_records.specs.Trace.{given_of, record_refusal_of, Shows, cycle_of};
 

@@ -12,7 +12,6 @@ use Rattle.rules.specs.Refusals.{out_of_range}
 use Rattle.rules.specs.declared.Cycle.{Cycle}
 use Rattle.trace_header.specs.Header.{Format, format1, record_start}
 use Rattle.trace_writer.specs.Writing.{number_by, number_in, record_number, record_bytes, extended, buffer_after, count_after, Records}
-use Rattle.trace_writer.specs.declared.Recorded.{Recorded}
 
 -- "the count with this cycle would pass" the most, told of the count without it
 pub passes : (most count : ℕ) → ltb most (count + 1) ≡ leb most count

@@ -1,6 +1,7 @@
 // Ticket 1, a recorder: from cycles one after another it fills a lent buffer with a trace. No public call asks anything of the buffer or of the
 // count that it is given.
 #![tactic(auto)]
+
 ghost use Rattle.std.specs.Prelude.{◌≡◌, ◌+◌, ◌<◌, ◌≤◌, length};
 ghost use Rattle.std.proofs.lemmas.List.Edits.{sets};
 ghost use Rattle.trace_header.specs.Header.{head_size, Format, format1};

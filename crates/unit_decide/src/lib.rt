@@ -1,5 +1,6 @@
 // What is decided in one cycle, from the registers and one descriptor.
 #![tactic(auto)]
+
 ghost use Rattle.std.specs.Prelude.{◌≡◌};
 ghost use Rattle.rules.specs.Step.{decided, place_of};
 

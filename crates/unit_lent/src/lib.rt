@@ -1,5 +1,6 @@
 // The thin second form of the step: a unit record that the caller lends, stepped where it stands.
 #![tactic(auto)]
+
 ghost use Rattle.std.specs.Prelude.{◌≡◌};
 ghost use Rattle.rules.specs.Step.{stepped};
 

@@ -1,5 +1,6 @@
 // An answer packed in bytes.
 #![tactic(auto)]
+
 ghost use Rattle.std.specs.Prelude.{◌≡◌, ◌+◌, ◌≤◌, length};
 ghost use Rattle.std.proofs.lemmas.List.Edits.{sets};
 ghost use Rattle.unit_packed.specs.Packed.{width, flags_of, packed};

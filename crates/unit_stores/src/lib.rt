@@ -1,5 +1,6 @@
 // Bytes put into a lent buffer, one after the other, and a number of two bytes.
 #![tactic(auto)]
+
 ghost use Rattle.std.specs.Prelude.{[], ◌∷◌, ◌≡◌, ◌+◌, ◌<◌, ◌≤◌, length};
 ghost use Rattle.unit_stores.specs.Put.{Put};
 ghost use Rattle.unit_stores.specs.Word.{word};

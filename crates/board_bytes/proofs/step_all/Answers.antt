@@ -13,7 +13,7 @@ use Rattle.board_answers.specs.Joint.{nothing, joining, ahead}
 use Rattle.board_answers.specs.declared.Joint.{Joint}
 use Rattle.board_bytes.specs.Boarded.{parts_in, part_at}
 use Rattle.board_bytes.proofs.Turns.{rest, cut_is, rest_all, rest_none, join_turn}
-use Rattle.board_bytes.proofs.Turns.{nearly, nearly_all, nearly_none, nearly_turn, put, put-drop, put-length, done, done_long}
+use Rattle.board_bytes.proofs.Turns.{nearly, nearly_all, nearly_none, nearly_turn, put, put-drop, done, done_long}
 use Rattle.board_bytes.proofs.step_all.Goals as goal
 
 pub loop-i-init : goal.loop-i-init
@@ -35,13 +35,13 @@ loop-i-preserved c =
     let y : List ℕ = c.stepped-x.new.unit in
     let left : y ≡ done units l.i l.left start.c =
     c.stepped-x.ensures.1
-        ∙ ap (λ (s : Cycle). in_place (take (unit_size * l.i + unit_size - unit_size * l.i) (drop (unit_size * l.i) units)) s) c.seen_by-seen.ensures
-        ∙ ap (λ (p : List ℕ). in_place p seen) (cut_is units l.i) in
+    ∙ ap (λ (s : Cycle). in_place (take (unit_size * l.i + unit_size - unit_size * l.i) (drop (unit_size * l.i) units)) s) c.seen_by-seen.ensures
+    ∙ ap (λ (p : List ℕ). in_place p seen) (cut_is units l.i) in
     let said : c.stepped-x.result ≡ (stepped (unit_in (part_at units l.i)) seen).answer =
     c.stepped-x.ensures.0
-        ∙ ap (λ (s : Cycle). (decided_in (take (unit_size * l.i + unit_size - unit_size * l.i) (drop (unit_size * l.i) units)) s).answer) c.seen_by-seen.ensures
-        ∙ ap (λ (p : List ℕ). (decided_in p seen).answer) (cut_is units l.i)
-        ∙ in_place_answers (part_at units l.i) seen in
+    ∙ ap (λ (s : Cycle). (decided_in (take (unit_size * l.i + unit_size - unit_size * l.i) (drop (unit_size * l.i) units)) s).answer) c.seen_by-seen.ensures
+    ∙ ap (λ (p : List ℕ). (decided_in p seen).answer) (cut_is units l.i)
+    ∙ in_place_answers (part_at units l.i) seen in
     let wide : length y ≡ unit_size = ap length left ∙ done_long units l.i l.left start.c room in (
       ap (λ (m : List ℕ). ahead c.join-joint.result (l.i + 1) (map (answer_of start.c) (seated (map unit_in (parts_in m (start.count - (l.i + 1)))) (l.left / 2))))
           (put-drop units y l.i room wide)

@@ -7,7 +7,7 @@ use Rattle.rules.specs.PowerOn.{power_on}
 use Rattle.rules.specs.declared.Unit.{Unit}
 use Rattle.board_rules.specs.Board.{Seat, seated}
 use Rattle.board_rules.proofs.Ahead.{rest, rest_none}
-use Rattle.board_refusals.specs.Judged.{ahead, asking, judging}
+use Rattle.board_refusals.specs.Judged.{ahead, judging}
 use Rattle.board_refusals.specs.declared.Asked.{Asked}
 use Rattle.board_refusals.specs.declared.Judged.{Judged}
 use Rattle.board_refusals.proofs.Laws.{known}

@@ -1,6 +1,6 @@
 -- The loop of `step_all`: at its start, after a unit, and at its end. Assumes nothing.
 use mathlib.Core.Path.{◌≡◌, refl, sym, ap, ◌∙◌}
-use Rattle.std.proofs.Common.{ℕ, ◌+◌, ◌/◌, ◌%◌, List, [], map, length, arith}
+use Rattle.std.proofs.Common.{ℕ, ◌+◌, ◌/◌, ◌%◌, List, [], map, arith}
 use lib.Dec.{eqb}
 use lib.ListN.{get_or, length-set}
 use Rattle.rules.specs.PowerOn.{power_on}
@@ -30,8 +30,8 @@ loop-i-preserved c =
     -- the step of this turn, said of the unit as it was at the start
     let alike : ◌≡◌ {A = Stepped} now (alone start.c (record { unit = get_or start.units l.i nobody; select = eqb (l.left % 2) 1 })) =
     c.step-s.ensures
-        ∙ ap (λ (u : Unit). stepped u c.seen_by-seen.result) (agree_at l.after start.units l.i nobody l.invariant.3)
-        ∙ ap (λ (x : Cycle). stepped (get_or start.units l.i nobody) x) c.seen_by-seen.ensures in (
+    ∙ ap (λ (u : Unit). stepped u c.seen_by-seen.result) (agree_at l.after start.units l.i nobody l.invariant.3)
+    ∙ ap (λ (x : Cycle). stepped (get_or start.units l.i nobody) x) c.seen_by-seen.ensures in (
       simp length-set l.invariant.0,
       ap (λ (t : Joint). ahead t (l.i + 1) (map (answer_of start.c) (rest start.units start.count (l.i + 1) (l.left / 2))))
           (c.join-joint.ensures ∙ ap (λ (s : Stepped). joining l.joint l.i s.answer) alike)

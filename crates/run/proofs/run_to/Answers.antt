@@ -33,14 +33,14 @@ loop-n-preserved c =
     let x : Cycle = cycle_at t n in
     let decides : acted ≡ decision was x =
     c.act-p.ensures
-        ∙ ap (λ (k : ℕ). decided c.loop-n.r (get_or c.loop-n.table (k % 64) blank) c.cycle_at-c.result) c.place_of.ensures
-        ∙ ap (decision was) c.cycle_at-c.ensures in
+    ∙ ap (λ (k : ℕ). decided c.loop-n.r (get_or c.loop-n.table (k % 64) blank) c.cycle_at-c.result) c.place_of.ensures
+    ∙ ap (decision was) c.cycle_at-c.ensures in
     let here : c.place_of.result % 64 ≡ place was x =
     ap (λ (k : ℕ). k % 64) (c.place_of.ensures ∙ ap (place_of c.loop-n.r) c.cycle_at-c.ensures) in
     let f : Change → List Descriptor = λ (h : Change). changed h (c.place_of.result % 64) c.loop-n.table in
     let after : c.match-h.table ≡ changed acted.change (c.place_of.result % 64) c.loop-n.table =
     elim c.match-h.branch [
-      in-Keep w ↦ w.table-is ∙ sym (ap f w.in-Keep.is)
+      | in-Keep w ↦ w.table-is ∙ sym (ap f w.in-Keep.is)
       | in-Put w ↦ w.table-is ∙ sym (ap f w.in-Put.is)
       | in-Raise w ↦ w.table-is ∙ w.with_flags_in_all-table.ensures ∙ sym (ap f w.in-Raise.is)
     ] in (

@@ -1,5 +1,5 @@
 -- The head and the lines of the packed answers, one after the other; and the line of a refusal. Assumes nothing.
-use mathlib.Core.Path.{◌≡◌, sym, ap, ◌∙◌}
+use mathlib.Core.Path.{◌≡◌, sym, ◌∙◌}
 use Rattle.std.proofs.Common.{ℕ, ◌≤◌, List, arith}
 use Rattle.trace_header.specs.Header.{format1, refusal_of}
 use Rattle.unit_stores.proofs.Laws.{then}
