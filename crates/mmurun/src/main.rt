@@ -35,9 +35,9 @@ fn room() -> [u8; text::listing::ROOM]
     [0; text::listing::ROOM]
 }
 
-// Reads a trace and writes its text. What is written is the text of the bytes that were read; and where the answer is yes, which says that no
-// read and no write failed, it is the text of the whole input, and nothing else. The longest good trace has 64,007 bytes: of a longer input the
-// first 65,536 bytes are read, and their text is that of the whole.
+// Reads a trace and writes its text. Where the answer is yes, which says that no read and no write failed, what was written is the text of the
+// whole input, and nothing else. The longest good trace has 64,007 bytes: of a longer input the first 65,536 bytes are read, and their text is
+// that of the whole.
 #[tactic(auto, using(crate::proofs::Input::whole_input))]
 fn whole<R: Read, W: Write>(from: &mut R, out: &mut W) -> bool
     ensures { result ≡ true → IfSome (R.remaining from.old) (λ trace.

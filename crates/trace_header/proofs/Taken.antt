@@ -19,9 +19,6 @@ none_of false false false false true e = absurd (omega (arith, e))
 none_of false false false false false e = (refl, refl, refl, refl, refl)
 
 module _ (f : Format) (t : List ℕ) (good : refusal_in f t ≡ 0) where
-  abbrev short : Bool
-  short = ltb (length t) head_size
-
   abbrev other : Bool
   other = not (eqb (version_of t) f.version)
 
@@ -31,12 +28,15 @@ module _ (f : Format) (t : List ℕ) (good : refusal_in f t ≡ 0) where
   abbrev uneven : Bool
   uneven = not (eqb (length t) (record_start f (count_of t)))
 
-  met : (short ≡ false) × (not (marked t) ≡ false) × (other ≡ false) × (many ≡ false) × (uneven ≡ false)
+  met : (head_size ≤ length t) × (not (marked t) ≡ false) × (other ≡ false) × (many ≡ false) × (uneven ≡ false)
   unfolding refusal_in
-  met = none_of short (not (marked t)) other many uneven good
+  met =
+      let w = none_of (ltb (length t) head_size) (not (marked t)) other many uneven good in
+      let long = ltb-false (length t) _ w.0 in
+      (omega (arith, long), w.1, w.2, w.3, w.4)
 
   pub opened : (head_size ≤ length t) × (marked t ≡ true) × (version_of t ≡ f.version)
-  opened = (ltb-false (length t) head_size met.0, not-false _ met.1, eqb-true (version_of t) f.version (not-false _ met.2))
+  opened = (met.0, not-false _ met.1, eqb-true (version_of t) f.version (not-false _ met.2))
 
   pub taken : (count_of t ≤ f.most) × (length t ≡ record_start f (count_of t))
   taken = (ltb-false f.most (count_of t) met.3, eqb-true (length t) (record_start f (count_of t)) (not-false _ met.4))
