@@ -6,6 +6,7 @@ pub mod Flags
 pub mod Registers
 -- "Numbers that say no", and what is answered
 pub mod Refusals
+pub mod Numbers
 pub mod Replies
 -- "Which cycle is what"; then "Fetch", "Translation", "Checks", "SUP", "Recording"
 pub mod Status

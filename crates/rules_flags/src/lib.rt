@@ -1,4 +1,4 @@
-// Flags of a byte, where a condition says whether they stand.
+// Flags of a byte, where a condition says whether they stand, and one of two values by a condition.
 #![tactic(auto)]
 
 ghost use Rattle.std.specs.Prelude.{◌≡◌, cond};
@@ -11,8 +11,8 @@ pub fn flag_if(on: bool, mask: u8) -> u8
     if on { mask } else { 0 }
 }
 
-// The first byte where the condition holds, else the second.
-pub fn pick(on: bool, a: u8, b: u8) -> u8
+// The first value where the condition holds, else the second.
+pub fn pick<T: Copy>(on: bool, a: T, b: T) -> T
     ensures { result ≡ cond on a b }
 {
     if on { a } else { b }
