@@ -12,19 +12,21 @@ use rules::{Control, Faults, Fetched, Notes, Registers};
 // are stored.
 fn with_all(
     r: Registers,
-    mr: u8,
-    sar: u8,
-    dscr: u8,
+    control: Control,
     vtr: u8,
     request: bool,
     awaits: bool,
     own: bool,
     hold: bool,
 ) -> Registers
-    ensures { result ≡ with_notes (with_vtr (with_control r (record { mr = mr; sar = sar; dscr = dscr })) vtr) (notes_of request awaits own hold) }
+    ensures { result ≡ with_notes (with_vtr (with_control r control) vtr) (notes_of request awaits own hold) }
 {
     Registers {
-        control: Control { mr, sar, dscr },
+        control: Control {
+            mr: control.mr,
+            sar: control.sar,
+            dscr: control.dscr,
+        },
         faults: Faults {
             vtr,
             vsn: r.faults.vsn,
@@ -51,9 +53,7 @@ pub fn with_notes(r: Registers, request: bool, awaits: bool, own: bool, hold: bo
 {
     with_all(
         r,
-        r.control.mr,
-        r.control.sar,
-        r.control.dscr,
+        r.control,
         r.faults.vtr,
         request,
         awaits,
@@ -68,9 +68,7 @@ pub fn with_vtr(r: Registers, vtr: u8) -> Registers
 {
     with_all(
         r,
-        r.control.mr,
-        r.control.sar,
-        r.control.dscr,
+        r.control,
         vtr,
         r.notes.request,
         r.notes.awaits,
@@ -80,14 +78,12 @@ pub fn with_vtr(r: Registers, vtr: u8) -> Registers
 }
 
 // Another MR, SAR and DSCR.
-pub fn with_control(r: Registers, mr: u8, sar: u8, dscr: u8) -> Registers
-    ensures { result ≡ with_control r (record { mr = mr; sar = sar; dscr = dscr }) }
+pub fn with_control(r: Registers, control: Control) -> Registers
+    ensures { result ≡ with_control r control }
 {
     with_all(
         r,
-        mr,
-        sar,
-        dscr,
+        control,
         r.faults.vtr,
         r.notes.request,
         r.notes.awaits,
