@@ -56,12 +56,7 @@ fn programmed(r: Registers, c: Cycle, old: u8, k: Control) -> Decision
     ensures { result ≡ programmed r c old k }
 {
     let next = pick(c.read, r.control, k);
-    replied(
-        c.read,
-        old,
-        with_control(r, next),
-        Change::Keep,
-    )
+    replied(c.read, old, with_control(r, next), Change::Keep)
 }
 
 // MR, the whole byte.

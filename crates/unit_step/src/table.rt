@@ -38,7 +38,7 @@ pub fn changed(
 ) -> [Descriptor; Unit::DESCRIPTORS]
     ensures { result ≡ changed h (place % 64) t }
 {
-    let i = (place % Unit::SEGMENTS) as usize;
+    let i = usize::from(place % Unit::SEGMENTS);
     match h {
         Change::Keep => t,
         Change::Put(d) => {
