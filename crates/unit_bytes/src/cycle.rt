@@ -22,5 +22,5 @@ pub fn cycled(unit: &mut [u8], answer: &mut [u8], c: Cycle) -> u8
         put_unit(unit, s.unit);
         s.answer
     };
-    show(answer, packed(a), a.kind)
+    show(answer, &packed(a), a.kind)
 }
