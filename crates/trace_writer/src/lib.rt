@@ -16,6 +16,7 @@ use rules_flags::flag_if;
 use trace_header::{COUNT_AT, HEAD, MARK, MOST, RECORD, VERSION, VERSION_AT};
 use trace_records::{DMA, RESET, SELECT};
 use unit_dispatch::refusals::out_of_range;
+use unit_stores::store;
 
 // The header of a trace of so many records.
 fn put_header(trace: &mut [u8], count: usize)
@@ -35,7 +36,7 @@ fn put_record(trace: &mut [u8], at: usize, c: Cycle)
 {
     let status = bus_status(c) | flag_if(c.dma, DMA) | flag_if(c.select, SELECT);
     let segment = c.segment | flag_if(c.reset, RESET);
-    trace[at..at + RECORD].copy_from_slice(&[status, segment, c.offset, c.byte]);
+    store(trace, at, [status, segment, c.offset, c.byte]);
 }
 
 // What refuses a cycle at a count, in a buffer of so many bytes. "The count with this cycle" may be past all numbers of a usize, so the bound is
@@ -71,7 +72,7 @@ pub fn record_start(trace: &mut [u8]) -> Result<usize, Refusal>
 
 // One cycle more, for a trace of `count` records: its record behind them, the header of one record more, and that count. Where it is refused the
 // buffer is as it was, and the count is still the one given.
-#[tactic(auto, using(crate::proofs::Ends::fits, crate::proofs::Ends::stored, crate::proofs::Ends::refused))]
+#[tactic(auto, using(crate::proofs::Ends::fits), unfolding(crate::specs::Writing::buffer_after, crate::specs::Writing::count_after))]
 pub fn record_cycle(trace: &mut [u8], count: usize, c: Cycle) -> Result<usize, Refusal>
     ensures { Records c count trace.old trace.new (recorded_by count result) }
 {
