@@ -102,9 +102,11 @@ pub fn distantarm_board_cycle(
 pub fn distantarm_record_start(trace: &mut [u8], count: &mut usize) -> u8
     ensures { RecordingStarted trace.old trace.new count.new result }
 {
-    let given = trace_writer::record_start(trace);
-    *count = given.count;
-    given.number
+    *count = 0;
+    match trace_writer::record_start(trace) {
+        Ok(_) => 0,
+        Err(refusal) => refusal.into(),
+    }
 }
 
 // One cycle more in a recording of `count` records: 0, its record behind them, the header of one record more, and one more in `count`. Where a
@@ -138,9 +140,13 @@ pub fn distantarm_record(
         byte,
         reset,
     };
-    let given = trace_writer::record_cycle(trace, *count, c);
-    *count = given.count;
-    given.number
+    match trace_writer::record_cycle(trace, *count, c) {
+        Ok(more) => {
+            *count = more;
+            0
+        }
+        Err(refusal) => refusal.into(),
+    }
 }
 
 // The text of a trace, as mmurun prints it, and its length. A buffer that is shorter than text::listing::ROOM is left as it was, and the answer
@@ -148,5 +154,5 @@ pub fn distantarm_record(
 pub fn distantarm_list(trace: &[u8], text: &mut [u8]) -> usize
     ensures { Listed trace.now text.old text.new result }
 {
-    text::listing::list(trace, text)
+    text::listing::list(trace, text).unwrap_or(0)
 }
