@@ -5,7 +5,7 @@ ghost use Rattle.std.specs.Prelude.{◌≡◌, ◌+◌, ◌≤◌, length};
 ghost use Rattle.std.proofs.lemmas.List.Edits.{sets};
 ghost use Rattle.board_packed.specs.BoardPacked.{board_width, named_byte, board_packed};
 
-use board_rules::{BoardAnswer, Named};
+use board_rules::BoardAnswer;
 
 // Where the named unit stands, the bytes of an answer, and the byte that says that none is named.
 pub const NAMED_AT: usize = unit_packed::BYTES;
@@ -15,13 +15,10 @@ pub const BYTES: usize = NAMED_AT + 1;
 pub const NOBODY: u8 = 255;
 
 // The named unit as a byte.
-fn named_byte(n: Named) -> u8
+fn named_byte(n: Option<u8>) -> u8
     ensures { result ≡ named_byte n }
 {
-    match n {
-        Named::Nobody => NOBODY,
-        Named::Number(i) => i,
-    }
+    n.unwrap_or(NOBODY)
 }
 
 // An answer's bytes stored from an index on.
