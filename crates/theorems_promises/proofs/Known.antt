@@ -13,6 +13,7 @@ use denote.Triple.Clauses.{AtExit}
 use lib.Dec.{ltb}
 use lib.ListN.{length, replicate}
 use lib.Seq.{sets}
+use Rattle.std.specs.Prelude.{Some}
 use Rattle.text.proofs.Sample.{input, output}
 use Rattle.text.specs.Listed.{filled, length_of}
 use Rattle.trace_reader.specs.declared.Found.{Found}
@@ -23,7 +24,6 @@ use Rattle.rules.specs.PowerOn.{power_on}
 use Rattle.rules.specs.declared.Cycle.{Cycle}
 use Rattle.board_rules.specs.declared.BoardCycle.{BoardCycle}
 use Rattle.board_rules.specs.declared.BoardStepped.{BoardStepped}
-use Rattle.board_rules.specs.declared.Named.TheVariants.{Number}
 use Rattle.rules.specs.declared.Stepped.{Stepped}
 use Rattle.unit_lent.proofs.step_by_lending.Kinds as step-by-lending-k
 use Rattle.unit_lent.proofs.step_by_lending.Reads as step-by-lending
@@ -218,7 +218,7 @@ pub step_board_known : (κs : Lfts 0) (s : BoardStepped) (e : AtExit (ended_of 0
     ) s e
     → s ≡ record {
       board = record { units = power_on ∷ translating (segment 8977 32 129) ∷ []; count = 2 };
-      answer = record { answer = translated 8998 false false 11; named = Number 1 };
+      answer = record { answer = translated 8998 false false 11; named = Some 1 };
     }
 unfolding all_computed
 step_board_known κs s e l = l
