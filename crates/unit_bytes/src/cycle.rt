@@ -10,7 +10,7 @@ use rules::refusal::Refusal;
 use unit_packed::{packed, show};
 use unit_step::step::step;
 
-// One cycle of the unit in the bytes, both buffers having room.
+// One cycle of the unit in the bytes, both buffers having room. A number and no `Result`: `Cycled` says that of the kind, `Refused` with any u8.
 pub fn cycled(unit: &mut [u8], answer: &mut [u8], c: Cycle) -> u8
     requires { (unit_size ≤ length unit.old) × (width ≤ length answer.old) }
     ensures { Cycled false c unit.old answer.old unit.new answer.new result }

@@ -38,7 +38,7 @@ pub const TRAP: u8 = 4;
 
 pub const DRIVES: u8 = 8;
 
-// The flags of an answer.
+// The flags of an answer. No `From`: `Answer` is of `rules`, and the masks are of this crate.
 #[tactic(auto, unfolding(crate::specs::Packed::flags_of))]
 fn flags_of(a: Answer) -> u8
     ensures { result ≡ flags_of a }
@@ -74,7 +74,8 @@ pub fn put(out: &mut [u8], at: usize, a: Answer)
     store(out, at, &packed(a));
 }
 
-// The bytes of an answer of this kind stored at the start of a buffer, and the number of its refusal, or 0.
+// The bytes of an answer of this kind stored at the start of a buffer, and the number of its refusal, or 0. `Kind::Refused` may hold any u8, so
+// the number is no `Refusal`.
 pub fn show<const N: usize>(buffer: &mut [u8], bytes: &[u8; N], kind: Kind) -> u8
     requires { N ≤ length buffer.old }
     ensures says { result ≡ number_of kind }
