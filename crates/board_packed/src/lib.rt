@@ -6,6 +6,7 @@ ghost use Rattle.std.proofs.lemmas.List.Edits.{sets};
 ghost use Rattle.board_packed.specs.BoardPacked.{board_width, named_byte, board_packed};
 
 use board_rules::BoardAnswer;
+use unit_stores::store;
 
 // Where the named unit stands, the bytes of an answer, and the byte that says that none is named.
 pub const NAMED_AT: usize = unit_packed::BYTES;
@@ -21,15 +22,28 @@ fn named_byte(n: Option<u8>) -> u8
     n.unwrap_or(NOBODY)
 }
 
-// An answer's bytes stored from an index on.
+// An answer's bytes.
 #[tactic(auto, unfolding(crate::specs::BoardPacked::board_packed, unit_packed::specs::Packed::packed))]
+pub fn packed(a: BoardAnswer) -> [u8; BYTES]
+    ensures { result ≡ board_packed a }
+{
+    let [letter, number, high, low, flags, byte, distance] = unit_packed::packed(a.answer);
+    [
+        letter,
+        number,
+        high,
+        low,
+        flags,
+        byte,
+        distance,
+        named_byte(a.named),
+    ]
+}
+
+// An answer's bytes stored from an index on.
 pub fn put(out: &mut [u8], at: usize, a: BoardAnswer)
     requires { at + board_width ≤ length out.old }
     ensures { out.new ≡ sets out.old at (board_packed a) }
 {
-    let answer = a.answer;
-    let named = a.named;
-    let byte = named_byte(named);
-    unit_packed::put(out, at, answer);
-    out[at + NAMED_AT] = byte;
+    store(out, at, &packed(a));
 }

@@ -2,16 +2,17 @@
 #![tactic(auto)]
 
 ghost use Rattle.std.specs.Prelude.{◌≡◌, ◌*◌, ◌+◌, ◌≤◌, length};
+ghost use Rattle.rules.specs.Numbers.{number_of_outcome};
 ghost use Rattle.unit_packed.specs.Packed.{width};
 ghost use Rattle.trace_header.specs.Header.{format1, record_start};
 ghost use Rattle.trace_records.specs.Trace.{record_at, cycle_of};
 ghost use Rattle.run.specs.Run.{ran_to, Ran};
 
+use rules::refusal::Refusal;
 use rules::{Change, Cycle, Unit};
 use trace_header::{HEAD, MOST, RECORD, refusal};
 use trace_records::{count, decode};
 use unit_step::table;
-use unit_stores::NO_ROOM;
 
 // The bytes of the answers of the longest trace.
 pub const ROOM: usize = unit_packed::BYTES * MOST;
@@ -56,22 +57,17 @@ fn run_to(trace: &[u8], count: usize, out: &mut [u8])
     }
 }
 
-// The run of a trace from power-on: 0, and the answers of all records, packed, at the start of the buffer. A refused trace
-// gives its number, a buffer that is too short gives NO_ROOM, and both leave the buffer as it was.
+// The run of a trace from power-on: the answers of all records, packed, at the start of the buffer. A refused trace gives its refusal,
+// a buffer that is too short gives NoRoom, and both leave the buffer as it was.
 #[tactic(auto, using(crate::proofs::Ends::fits, crate::proofs::Ends::run_ends), unfolding(crate::specs::Run::ran_to))]
-pub fn run(trace: &[u8], out: &mut [u8]) -> u8
-    ensures { Ran trace.now out.old out.new result }
+pub fn run(trace: &[u8], out: &mut [u8]) -> Result<(), Refusal>
+    ensures { Ran trace.now out.old out.new (number_of_outcome result) }
 {
-    let no = refusal(trace);
-    let refused = no != 0;
-    if refused {
-        return no;
-    }
+    refusal(trace)?;
     let n = count(trace);
-    let narrow = out.len() < unit_packed::BYTES * n;
-    if narrow {
-        return NO_ROOM;
+    if out.len() < unit_packed::BYTES * n {
+        return Err(Refusal::NoRoom);
     }
     run_to(trace, n, out);
-    0
+    Ok(())
 }

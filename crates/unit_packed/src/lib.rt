@@ -3,11 +3,12 @@
 
 ghost use Rattle.std.specs.Prelude.{◌≡◌, ◌+◌, ◌≤◌, length};
 ghost use Rattle.std.proofs.lemmas.List.Edits.{sets};
+ghost use Rattle.rules.specs.Kinds.{number_of};
 ghost use Rattle.unit_packed.specs.Packed.{width, flags_of, packed};
 
-use rules::Answer;
+use rules::{Answer, Kind};
 use rules_flags::flag_if;
-use unit_stores::BYTE_VALUES;
+use unit_stores::{store, word_bytes};
 
 // What stands where: the kind's letter, the number of a refusal, the address lines, the flags, the data byte, the distance; and the
 // bytes of an answer.
@@ -48,22 +49,37 @@ fn flags_of(a: Answer) -> u8
         | flag_if(a.drives, DRIVES)
 }
 
-// An answer's bytes stored from an index on.
+// An answer's bytes.
 #[tactic(auto, unfolding(crate::specs::Packed::packed))]
+pub fn packed(a: Answer) -> [u8; BYTES]
+    ensures { result ≡ packed a }
+{
+    let [high, low] = word_bytes(a.address.block);
+    [
+        rules_answers::letter(a.kind),
+        rules_answers::number(a.kind),
+        high,
+        low,
+        flags_of(a),
+        a.byte,
+        a.distance,
+    ]
+}
+
+// An answer's bytes stored from an index on.
 pub fn put(out: &mut [u8], at: usize, a: Answer)
     requires { at + width ≤ length out.old }
     ensures { out.new ≡ sets out.old at (packed a) }
 {
-    let kind = a.kind;
-    let letter = rules_answers::letter(kind);
-    let number = rules_answers::number(kind);
-    let flags = flags_of(a);
-    let block = a.address.block;
-    out[at + LETTER_AT] = letter;
-    out[at + NUMBER_AT] = number;
-    out[at + HIGH_AT] = (block / BYTE_VALUES) as u8;
-    out[at + LOW_AT] = (block % BYTE_VALUES) as u8;
-    out[at + FLAGS_AT] = flags;
-    out[at + DATA_BYTE_AT] = a.byte;
-    out[at + DISTANCE_AT] = a.distance;
+    store(out, at, &packed(a));
+}
+
+// The bytes of an answer of this kind stored at the start of a buffer, and the number of its refusal, or 0.
+pub fn show<const N: usize>(buffer: &mut [u8], bytes: &[u8; N], kind: Kind) -> u8
+    requires { N ≤ length buffer.old }
+    ensures says { result ≡ number_of kind }
+    ensures shows { buffer.new ≡ sets buffer.old 0 bytes.now }
+{
+    store(buffer, 0, bytes);
+    rules_answers::number(kind)
 }
