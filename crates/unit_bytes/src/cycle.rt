@@ -7,7 +7,6 @@ ghost use Rattle.unit_bytes.specs.Cycled.{Cycled};
 use crate::snapshot::{LAST_NOTES, NOTES, put_unit, registers_in, unit_in};
 use rules::Cycle;
 use rules::refusal::Refusal;
-use unit_packed::{packed, show};
 use unit_step::step::step;
 
 // One cycle of the unit in the bytes, both buffers having room. A number and no `Result`: `Cycled` says that of the kind, `Refused` with any u8.
@@ -22,5 +21,6 @@ pub fn cycled(unit: &mut [u8], answer: &mut [u8], c: Cycle) -> u8
         put_unit(unit, s.unit);
         s.answer
     };
-    show(answer, &packed(a), a.kind)
+    unit_packed::put(answer, 0, a);
+    rules_answers::number(a.kind)
 }
