@@ -31,6 +31,7 @@ fn run_to(trace: &[u8], out: &mut [u8])
         let c = decode(record);
         let i = usize::from(unit_decide::place_of(r, c) % Unit::SEGMENTS);
         let p = unit_decide::act(r, table[i], c);
+        // By its index, since the library says nothing of what a slice ends as that `as_chunks_mut` has lent.
         unit_packed::put(out, unit_packed::BYTES * n, p.answer);
         r = p.registers;
         match p.change {
@@ -43,7 +44,7 @@ fn run_to(trace: &[u8], out: &mut [u8])
 
 // The run of a trace from power-on: the answers of all records, packed, at the start of the buffer. A refused trace gives its refusal,
 // a buffer that is too short gives NoRoom, and both leave the buffer as it was.
-#[tactic(auto, using(crate::proofs::Ends::fits, crate::proofs::Ends::run_ends), unfolding(crate::specs::Run::ran_to))]
+#[tactic(auto, using(crate::proofs::Ends::fits), unfolding(crate::specs::Run::ran_to))]
 pub fn run(trace: &[u8], out: &mut [u8]) -> Result<(), Refusal>
     ensures { Ran trace.now out.old out.new (number_of_outcome result) }
 {
