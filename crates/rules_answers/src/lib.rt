@@ -58,7 +58,8 @@ pub fn refused(n: u8, r: Registers) -> Decision
     plain(Kind::Refused(n), r, Change::Keep)
 }
 
-// The letter that stands for the kind.
+// The letter that stands for the kind. It and the number are functions and not `From<Kind>`: both are a byte of one kind, and a type has one
+// `From` of another.
 pub fn letter(kind: Kind) -> u8
     ensures { result ≡ letter_of kind }
 {
