@@ -3,9 +3,10 @@
 
 ghost use Rattle.std.specs.Prelude.{◌≡◌, ◌+◌, ◌≤◌, length};
 ghost use Rattle.std.proofs.lemmas.List.Edits.{sets};
-ghost use Rattle.board_packed.specs.BoardPacked.{board_width, named_byte, board_packed};
+ghost use Rattle.board_packed.specs.BoardPacked.{board_width, board_packed};
 
-use board_rules::{BoardAnswer, Named};
+use board_rules::BoardAnswer;
+use unit_stores::store;
 
 // Where the named unit stands, the bytes of an answer, and the byte that says that none is named.
 pub const NAMED_AT: usize = unit_packed::BYTES;
@@ -14,25 +15,28 @@ pub const BYTES: usize = NAMED_AT + 1;
 
 pub const NOBODY: u8 = 255;
 
-// The named unit as a byte.
-fn named_byte(n: Named) -> u8
-    ensures { result ≡ named_byte n }
+// An answer's bytes.
+#[tactic(auto, unfolding(crate::specs::BoardPacked::board_packed, unit_packed::specs::Packed::packed))]
+pub fn packed(a: BoardAnswer) -> [u8; BYTES]
+    ensures { result ≡ board_packed a }
 {
-    match n {
-        Named::Nobody => NOBODY,
-        Named::Number(i) => i,
-    }
+    let [letter, number, high, low, flags, byte, distance] = unit_packed::packed(a.answer);
+    [
+        letter,
+        number,
+        high,
+        low,
+        flags,
+        byte,
+        distance,
+        a.named.unwrap_or(NOBODY),
+    ]
 }
 
 // An answer's bytes stored from an index on.
-#[tactic(auto, unfolding(crate::specs::BoardPacked::board_packed, unit_packed::specs::Packed::packed))]
 pub fn put(out: &mut [u8], at: usize, a: BoardAnswer)
     requires { at + board_width ≤ length out.old }
     ensures { out.new ≡ sets out.old at (board_packed a) }
 {
-    let answer = a.answer;
-    let named = a.named;
-    let byte = named_byte(named);
-    unit_packed::put(out, at, answer);
-    out[at + NAMED_AT] = byte;
+    store(out, at, &packed(a));
 }

@@ -10,8 +10,7 @@ use Rattle.unit_packed.specs.Packed.{width}
 use Rattle.unit_stores.specs.Put.{NO_ROOM}
 use Rattle.board_rules.specs.declared.BoardCycle.{BoardCycle}
 use Rattle.board_bytes.specs.Boarded.{Boarded}
-use Rattle.trace_writer.specs.Writing.{Starts, Records}
-use Rattle.trace_writer.specs.declared.Recorded.{Recorded}
+use Rattle.trace_writer.specs.Writing.{Recorded, Starts, Records}
 
 -- a buffer without room for a unit, or for a packed answer
 abbrev pub no_unit : List ℕ → Bool

@@ -1,25 +1,26 @@
 // The C interface: a unit in bytes that the caller keeps, stepped cycle by cycle, a board of 1 to 16 such units, one's bytes behind another's,
 // stepped where they stand, a recorder of cycles in a buffer that the caller keeps, and the text of a whole trace. It keeps no state, and no call
-// asks anything of its caller. `distantarm_c` exports these functions, and `include/distantarm.h` declares them for C.
+// asks anything of its caller. `distantarm_c` exports these functions, and `include/distantarm.h` declares them for C: so a cycle is a row of
+// parameters, a count stands beside its buffer, and a refusal is a number.
 #![tactic(auto)]
 
 ghost use Rattle.text.specs.Listed.{Listed};
 ghost use Rattle.distantarm.specs.Interface.{PoweredOn, Called, given, BoardCalled, board_given, RecordingStarted, CycleRecorded};
 
+use rules::refusal::Refusal;
 use rules::{Cycle, Unit};
-use unit_stores::NO_ROOM;
+use unit_bytes::cycle::cycled;
+use unit_bytes::snapshot;
 
 // The unit at power-on: 0, and its bytes at the start of the buffer. A buffer that is too short gives NO_ROOM and is left as it was.
 #[tactic(auto, using(crate::proofs::Ends::powered))]
 pub fn distantarm_power_on(unit: &mut [u8]) -> u8
     ensures { PoweredOn unit.old unit.new result }
 {
-    let narrow = unit.len() < unit_bytes::snapshot::BYTES;
-    if narrow {
-        return NO_ROOM;
+    if unit.len() < snapshot::BYTES {
+        return Refusal::NoRoom.into();
     }
-    let u = Unit::power_on();
-    unit_bytes::snapshot::put_unit(unit, u);
+    snapshot::put_unit(unit, Unit::power_on());
     0
 }
 
@@ -43,9 +44,8 @@ pub fn distantarm_cycle(
     ensures { Called (given status read normal dma select segment offset low byte reset)
         unit.old answer.old unit.new answer.new result }
 {
-    let narrow = (unit.len() < unit_bytes::snapshot::BYTES) | (answer.len() < unit_packed::BYTES);
-    if narrow {
-        return NO_ROOM;
+    if unit.len() < snapshot::BYTES || answer.len() < unit_packed::BYTES {
+        return Refusal::NoRoom.into();
     }
     let c = Cycle {
         status,
@@ -59,7 +59,7 @@ pub fn distantarm_cycle(
         byte,
         reset,
     };
-    unit_bytes::cycle::cycled(unit, answer, c)
+    cycled(unit, answer, c)
 }
 
 // One cycle of a board of `count` units, for all of them, with a select bit for each, unit 0 in bit 0: the packed answer of the board in the one
@@ -95,7 +95,10 @@ pub fn distantarm_board_cycle(
         byte,
         reset,
     };
-    board_bytes::cycle(units, answer, count, c, selects)
+    match board_bytes::cycle(units, answer, count, c, selects) {
+        Ok(()) => 0,
+        Err(e) => e.into(),
+    }
 }
 
 // The start of a recording: 0, the header of no record at the start of the buffer, and the count 0. A buffer that is too short for it gives 10 and
@@ -103,9 +106,11 @@ pub fn distantarm_board_cycle(
 pub fn distantarm_record_start(trace: &mut [u8], count: &mut usize) -> u8
     ensures { RecordingStarted trace.old trace.new count.new result }
 {
-    let given = trace_writer::record_start(trace);
-    *count = given.count;
-    given.number
+    *count = 0;
+    match trace_writer::record_start(trace) {
+        Ok(_) => 0,
+        Err(refusal) => refusal.into(),
+    }
 }
 
 // One cycle more in a recording of `count` records: 0, its record behind them, the header of one record more, and one more in `count`. Where a
@@ -139,9 +144,13 @@ pub fn distantarm_record(
         byte,
         reset,
     };
-    let given = trace_writer::record_cycle(trace, *count, c);
-    *count = given.count;
-    given.number
+    match trace_writer::record_cycle(trace, *count, c) {
+        Ok(more) => {
+            *count = more;
+            0
+        }
+        Err(refusal) => refusal.into(),
+    }
 }
 
 // The text of a trace, as mmurun prints it, and its length. A buffer that is shorter than text::listing::ROOM is left as it was, and the answer
@@ -149,5 +158,5 @@ pub fn distantarm_record(
 pub fn distantarm_list(trace: &[u8], text: &mut [u8]) -> usize
     ensures { Listed trace.now text.old text.new result }
 {
-    text::listing::list(trace, text)
+    text::listing::list(trace, text).unwrap_or(0)
 }

@@ -1,7 +1,7 @@
 // The text of a trace, as mmurun prints it, into a lent buffer.
-ghost use Rattle.std.specs.Prelude.{◌≡◌, length};
+ghost use Rattle.std.specs.Prelude.{◌≡◌, ◌≤◌, ◌↔◌, IsSome, length, unwrap_or};
 ghost use Rattle.run.specs.Run.{answers_room};
-ghost use Rattle.text.specs.Listed.{Listed, Counts};
+ghost use Rattle.text.specs.Listed.{Listed, Counts, text_room};
 
 use crate::lines::{put_head, put_lines, put_refusal};
 use trace_header::MOST;
@@ -18,20 +18,24 @@ fn zeros() -> [u8; run::ROOM]
 }
 
 // Fills the buffer with the text of the trace, and answers the text's length. A buffer that is shorter than ROOM is left as it was, and
-// the answer is 0.
-pub fn list(trace: &[u8], out: &mut [u8]) -> usize
-    ensures listed { Listed trace.now out.old out.new result }
-    ensures counts { Counts result out.new }
+// the answer is None.
+// The length, and not that part of the buffer, since `distantarm_list` has to answer it in C.
+pub fn list(trace: &[u8], out: &mut [u8]) -> Option<usize>
+    ensures listed { Listed trace.now out.old out.new (unwrap_or result 0) }
+    ensures counts { Counts (unwrap_or result 0) out.new }
+    ensures room { IsSome result ↔ (text_room ≤ length out.old) }
 {
     if out.len() < ROOM {
-        return 0;
+        return None;
     }
     let mut packed = zeros();
-    let no = run::run(trace, &mut packed);
-    if no == 0 {
-        let count = trace_records::count(trace);
-        let p = put_head(out, count);
-        return put_lines(&packed, count, out, p);
-    }
-    put_refusal(out, no)
+    let length = match run::run(trace, &mut packed) {
+        Ok(()) => {
+            let count = trace_records::count(trace);
+            let p = put_head(out, count);
+            put_lines(&packed, count, out, p)
+        }
+        Err(refusal) => put_refusal(out, refusal.into()),
+    };
+    Some(length)
 }

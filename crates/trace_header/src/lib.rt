@@ -1,11 +1,12 @@
-// The header of a trace, and the numbers that refuse a trace. No public call asks anything of the trace that it is lent.
+// The header of a trace, and what refuses a trace. No public call asks anything of the trace that it is lent.
 #![tactic(auto)]
 
 ghost use Rattle.std.specs.Prelude.{◌≡◌, ◌<◌, get_or};
+ghost use Rattle.rules.specs.Numbers.{number_of_outcome};
 ghost use Rattle.unit_stores.specs.Word.{word_values, word_at};
 ghost use Rattle.trace_header.specs.Header.{head_size, marked, count_of, refusal_of};
 
-use unit_stores::word;
+use rules::refusal::Refusal;
 
 // The mark that a trace opens with.
 pub const MARK: [u8; 3] = *b"MBT";
@@ -29,7 +30,7 @@ pub const RECORD: usize = 4;
 pub fn byte_at(bytes: &[u8], at: usize) -> u8
     ensures { result ≡ get_or bytes.now at 0 }
 {
-    if at < bytes.len() { bytes[at] } else { 0 }
+    bytes.get(at).copied().unwrap_or(0)
 }
 
 // 16 bits of the header, high byte first.
@@ -38,9 +39,7 @@ fn word_at(bytes: &[u8], at: usize) -> usize
     requires { at < head_size }
     ensures { (result ≡ word_at bytes.now at) × (result < word_values) }
 {
-    let high = byte_at(bytes, at);
-    let low = byte_at(bytes, at + 1);
-    word(high, low) as usize
+    usize::from(u16::from_be_bytes([byte_at(bytes, at), byte_at(bytes, at + 1)]))
 }
 
 // The trace opens with the mark.
@@ -48,7 +47,7 @@ fn word_at(bytes: &[u8], at: usize) -> usize
 fn marked(trace: &[u8]) -> bool
     ensures { result ≡ marked trace.now }
 {
-    (byte_at(trace, 0) == MARK[0]) & (byte_at(trace, 1) == MARK[1]) & (byte_at(trace, 2) == MARK[2])
+    trace.starts_with(&MARK)
 }
 
 // The record count that the header states.
@@ -58,28 +57,23 @@ pub fn count_of(trace: &[u8]) -> usize
     word_at(trace, COUNT_AT)
 }
 
-// The number that refuses the trace, 5 to 8, or 0.
+// What refuses the trace, and Ok where nothing does.
 #[tactic(auto, unfolding(crate::specs::Header::refusal_in))]
-pub fn refusal(trace: &[u8]) -> u8
-    ensures { result ≡ refusal_of trace.now }
+pub fn refusal(trace: &[u8]) -> Result<(), Refusal>
+    ensures { number_of_outcome result ≡ refusal_of trace.now }
 {
-    let short = trace.len() < HEAD;
-    if short {
-        return 5;
+    if trace.len() < HEAD || !marked(trace) {
+        return Err(Refusal::NoTrace);
     }
-    let unmarked = !marked(trace);
-    if unmarked {
-        return 5;
-    }
-    let other = word_at(trace, VERSION_AT) != VERSION;
-    if other {
-        return 6;
+    if word_at(trace, VERSION_AT) != VERSION {
+        return Err(Refusal::OtherVersion);
     }
     let count = count_of(trace);
-    let many = MOST < count;
-    if many {
-        return 7;
+    if count > MOST {
+        return Err(Refusal::TooMany);
     }
-    let uneven = trace.len() != HEAD + RECORD * count;
-    if uneven { 8 } else { 0 }
+    if trace.len() != HEAD + RECORD * count {
+        return Err(Refusal::WrongLength);
+    }
+    Ok(())
 }

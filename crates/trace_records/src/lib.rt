@@ -2,8 +2,10 @@
 #![tactic(auto)]
 
 ghost use Rattle.std.specs.Prelude.{◌≡◌};
+ghost use Rattle.rules.specs.Numbers.{number_of_outcome};
 ghost use Rattle.trace_records.specs.Trace.{given_of, record_refusal_of, Shows, cycle_of};
 
+use rules::refusal::Refusal;
 use rules::{Cycle, Unit};
 use trace_header::{HEAD, RECORD, byte_at, count_of, refusal};
 
@@ -24,39 +26,40 @@ pub const SELECT: u8 = 128;
 pub const RESET: u8 = 128;
 
 // How many records the trace gives: its count, and none where it is refused.
+// 0, and no Result: that a refused trace gives no record is what `given_of` says, and so how often a reader is asked.
 #[tactic(auto, unfolding(crate::specs::Trace::given_in))]
 pub fn count(trace: &[u8]) -> usize
     ensures { result ≡ given_of trace.now }
 {
-    let taken = refusal(trace) == 0;
-    if taken { count_of(trace) } else { 0 }
+    match refusal(trace) {
+        Ok(()) => count_of(trace),
+        Err(_) => 0,
+    }
 }
 
-// The number that refuses record n, 5 to 9, or 0.
+// What refuses record n: what refuses the trace, or that n is at or past its count; and Ok where nothing does.
 #[tactic(auto, unfolding(crate::specs::Trace::record_refusal_in))]
-pub fn record_refusal(trace: &[u8], n: usize) -> u8
-    ensures { result ≡ record_refusal_of trace.now n }
+pub fn record_refusal(trace: &[u8], n: usize) -> Result<(), Refusal>
+    ensures { number_of_outcome result ≡ record_refusal_of trace.now n }
 {
-    let no = refusal(trace);
-    let refused = no != 0;
-    if refused {
-        return no;
+    refusal(trace)?;
+    if n >= count_of(trace) {
+        return Err(Refusal::PastTheCount);
     }
-    let past = count_of(trace) <= n;
-    if past { 9 } else { 0 }
+    Ok(())
 }
 
 // Record n as that part of the trace, and the empty part at the trace's start where it is refused.
+// The empty part, and no Option: `Shows` promises where it lies.
 #[tactic(auto, using(crate::proofs::Within::record_within), unfolding(crate::specs::Trace::part_in, crate::specs::Trace::part_start_in))]
 pub fn part(trace: &[u8], n: usize) -> &[u8]
     ensures { Shows trace.entry n result }
 {
-    let given = record_refusal(trace, n) == 0;
-    if given {
-        let at = HEAD + RECORD * n;
-        return &trace[at..at + RECORD];
+    if record_refusal(trace, n).is_err() {
+        return &trace[0..0];
     }
-    &trace[0..0]
+    let at = HEAD + RECORD * n;
+    &trace[at..at + RECORD]
 }
 
 // The cycle of a record's four bytes, which have no low byte: it is 0. In a shorter part the bytes that are missing count as 0, and in a longer one the first four are read.

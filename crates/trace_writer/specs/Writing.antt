@@ -1,15 +1,16 @@
 -- Ticket 1: a writer of traces. From cycles one after another it fills a lent buffer with a trace; here is what each of its calls gives and
 -- leaves, for any buffer and any count.
-use Rattle.std.specs.Prelude.{Bool, true, false, cond, List, [], ◌∷◌, ◌++◌, ◌≡◌, ℕ, ◌+◌, eqb, ltb, length}
+use Rattle.std.specs.Prelude.{Bool, true, false, cond, List, [], ◌∷◌, ◌++◌, ◌≡◌, ℕ, ◌+◌, eqb, ltb, length, Result, Ok, Err}
 use Rattle.std.proofs.lemmas.List.Edits.{sets}
 use Rattle.rules.specs.Flags.{with, flag_if}
+use Rattle.rules.specs.Numbers.{refusal_number}
 use Rattle.rules.specs.Recording.{bus_status}
 use Rattle.rules.specs.Refusals.{out_of_range}
 use Rattle.rules.specs.declared.Cycle.{Cycle}
+use Rattle.rules.specs.declared.refusal.Refusal.{Refusal}
 use Rattle.trace_header.specs.Header.{mark, Format, format1, record_start}
 use Rattle.trace_records.specs.Layout.{DMA, SELECT, RESET}
 use Rattle.unit_stores.specs.Word.{high_of, low_of}
-use Rattle.trace_writer.specs.declared.Recorded.{Recorded}
 
 -- ---- the bytes
 
@@ -70,6 +71,16 @@ count_after bytes count c = cond (eqb (record_number bytes count c) 0) (count + 
 -- the buffer after the start; the count is 0, beside 10 too
 unfoldable pub buffer_started : List ℕ → List ℕ
 buffer_started buffer = cond (eqb (start_number (length buffer)) 0) (headed format1 buffer 0) buffer
+
+-- what a call gives: the number that says no, or 0, and the count of the records in the buffer after it
+pub record Recorded : Type 0 where
+  pub number : ℕ
+  pub count : ℕ
+
+-- the same of a call's answer: the count after it, or what refuses it, where the count that it was given is the one after it
+abbrev pub recorded_by : (count : ℕ) → Result ℕ Refusal → Recorded
+recorded_by count (Ok more) = record { number = 0; count = more }
+recorded_by count (Err refusal) = record { number = refusal_number refusal; count = count }
 
 -- what the two calls promise of what they give, and of the whole buffer
 pub record Starts (before after : List ℕ) (given : Recorded) : Type 0 where

@@ -7,7 +7,7 @@ ghost use Rattle.unit_packed.specs.Packed.{width, flags_of, packed};
 
 use rules::Answer;
 use rules_flags::flag_if;
-use unit_stores::BYTE_VALUES;
+use unit_stores::{store, word_bytes};
 
 // What stands where: the kind's letter, the number of a refusal, the address lines, the flags, the data byte, the distance; and the
 // bytes of an answer.
@@ -37,7 +37,7 @@ pub const TRAP: u8 = 4;
 
 pub const DRIVES: u8 = 8;
 
-// The flags of an answer.
+// The flags of an answer. No `From`: `Answer` is of `rules`, and the masks are of this crate.
 #[tactic(auto, unfolding(crate::specs::Packed::flags_of))]
 fn flags_of(a: Answer) -> u8
     ensures { result ≡ flags_of a }
@@ -48,22 +48,27 @@ fn flags_of(a: Answer) -> u8
         | flag_if(a.drives, DRIVES)
 }
 
-// An answer's bytes stored from an index on.
+// An answer's bytes.
 #[tactic(auto, unfolding(crate::specs::Packed::packed))]
+pub fn packed(a: Answer) -> [u8; BYTES]
+    ensures { result ≡ packed a }
+{
+    let [high, low] = word_bytes(a.address.block);
+    [
+        rules_answers::letter(a.kind),
+        rules_answers::number(a.kind),
+        high,
+        low,
+        flags_of(a),
+        a.byte,
+        a.distance,
+    ]
+}
+
+// An answer's bytes stored from an index on.
 pub fn put(out: &mut [u8], at: usize, a: Answer)
     requires { at + width ≤ length out.old }
     ensures { out.new ≡ sets out.old at (packed a) }
 {
-    let kind = a.kind;
-    let letter = rules_answers::letter(kind);
-    let number = rules_answers::number(kind);
-    let flags = flags_of(a);
-    let block = a.address.block;
-    out[at + LETTER_AT] = letter;
-    out[at + NUMBER_AT] = number;
-    out[at + HIGH_AT] = (block / BYTE_VALUES) as u8;
-    out[at + LOW_AT] = (block % BYTE_VALUES) as u8;
-    out[at + FLAGS_AT] = flags;
-    out[at + DATA_BYTE_AT] = a.byte;
-    out[at + DISTANCE_AT] = a.distance;
+    store(out, at, &packed(a));
 }
