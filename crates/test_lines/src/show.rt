@@ -6,6 +6,8 @@ ghost use Rattle.unit_bytes.specs.Snapshot.{unit_size};
 use rules::Descriptor;
 use std::io;
 use std::io::Write;
+use text::lines::LINE;
+use text::numbers::Line;
 use unit_bytes::snapshot;
 
 // A line that asks for nothing: an empty one and one that starts with `#` as it is, and `?` for any other.
@@ -23,10 +25,15 @@ pub fn other<W: Write>(out: &mut W, line: &[u8]) -> io::Result<()> {
 pub fn answer<W: Write>(out: &mut W, packed: &[u8]) -> io::Result<()>
     requires { width ≤ length packed.now }
 {
-    let mut line = [0; text::lines::LINE];
-    let n = text::lines::put_lines(packed, 1, &mut line, 0);
-    if 3 < n {
-        streams::write_all(out, &line[2..n - 1])?;
+    let mut buffer = [0; LINE];
+    let mut line = Line {
+        out: &mut buffer,
+        at: 0,
+    };
+    line.put_lines(packed, 1);
+    let end = line.at;
+    if 3 < end {
+        streams::write_all(out, &buffer[2..end - 1])?;
     }
     Ok(())
 }
