@@ -1,5 +1,7 @@
 -- What is kept of the answers of a board's units while they are joined one after another, and what the answers of all come to.
-use Rattle.std.specs.Prelude.{Bool, false, not, cond, ◌&&◌, ◌||◌, List, ℕ}
+use Rattle.std.specs.Prelude.{Bool, false, cond, ◌&&◌, ◌||◌, List, [], ◌∷◌, ℕ, suc, Some, None, option_map}
+use Rattle.std.specs.Prelude.{Option as Optional}
+use Rattle.std.specs.Option.{option_or}
 use Rattle.std.specs.Int.Bits.{bit_or}
 use Rattle.rules.specs.Replies.{off}
 use Rattle.rules.specs.declared.Address.{Address}
@@ -9,37 +11,23 @@ use Rattle.rules.specs.declared.Kind.{Kind}
 use Rattle.rules.specs.declared.Kind.TheVariants.{Aborted, Ignored}
 use Rattle.theorems_runs.specs.Answers.{is_aborted}
 use Rattle.theorems_runs.specs.Cycles.{acknowledge}
-use Rattle.board_rules.specs.Board.{is_kind, some_of, silent, driver, driver_from, joined_byte, kind_by}
+use Rattle.board_rules.specs.Board.{is_kind, some_of, on_lines, joined_byte, kind_by, Named}
 use Rattle.board_rules.specs.declared.BoardAnswer.{BoardAnswer}
-use Rattle.board_rules.specs.declared.Named.{Named}
-use Rattle.board_rules.specs.declared.Named.TheVariants.{Nobody, Number}
+use Rattle.board_answers.specs.declared.Driver.{Driver}
 use Rattle.board_answers.specs.declared.Joint.{Joint}
 
 -- no answer yet
 abbrev pub nothing : Joint
-nothing = record {
-  kind = Ignored;
-  address = off;
-  distance = 0;
-  driver = 0;
-  aborted = false;
-  sup = false;
-  trap = false;
-  drives = false;
-  byte = 0;
-}
+nothing = record { driver = None; aborted = false; sup = false; trap = false; drives = false; byte = 0 }
 
--- this answer is the first that drives the address
-abbrev pub takes : Joint → Answer → Bool
-takes t x = not t.address.driven && x.address.driven
+-- unit i by its answer, where it drives the address
+abbrev pub driving : (i : ℕ) → Answer → Optional Driver
+driving i x = cond (on_lines x) (Some (record { unit = i; kind = x.kind; address = x.address; distance = x.distance })) None
 
 -- one answer more, of unit i
 unfoldable pub joining : Joint → (i : ℕ) → Answer → Joint
 joining t i x = record {
-  kind = cond (takes t x) x.kind t.kind;
-  address = cond (takes t x) x.address t.address;
-  distance = cond (takes t x) x.distance t.distance;
-  driver = cond (takes t x) i t.driver;
+  driver = option_or t.driver (driving i x);
   aborted = t.aborted || is_aborted x.kind;
   sup = t.sup || x.sup;
   trap = t.trap || x.trap;
@@ -49,64 +37,54 @@ joining t i x = record {
 
 -- one unit more that shows its request and nothing else
 abbrev pub quietly : Joint → (request : Bool) → Joint
-quietly t request = record {
-  kind = t.kind;
-  address = t.address;
-  distance = t.distance;
-  driver = t.driver;
-  aborted = t.aborted;
-  sup = t.sup;
-  trap = t.trap || request;
-  drives = t.drives;
-  byte = t.byte;
-}
+quietly t request = record { driver = t.driver; aborted = t.aborted; sup = t.sup; trap = t.trap || request; drives = t.drives; byte = t.byte }
 
 -- What it comes to
 
 abbrev pub nobody_in : (aborted : Bool) → Kind
 nobody_in aborted = cond aborted Aborted Ignored
 
-abbrev pub named_in : (driven : Bool) → (driver : ℕ) → Named
-named_in driven n = cond driven (Number n) Nobody
+abbrev pub kind_in : Optional Driver → (nobody : Kind) → Kind
+kind_in None nobody = nobody
+kind_in (Some d) nobody = d.kind
+
+abbrev pub address_in : Optional Driver → Address
+address_in None = off
+address_in (Some d) = d.address
+
+abbrev pub distance_in : Optional Driver → ℕ
+distance_in None = 0
+distance_in (Some d) = d.distance
+
+abbrev pub named_in : Optional Driver → Named
+named_in o = option_map (λ d. d.unit) o
 
 abbrev pub told : Joint → Cycle → (command : Bool) → BoardAnswer
 told t c command = record {
   answer = record {
-    kind = kind_by c.reset (acknowledge c) command (cond t.address.driven t.kind (nobody_in t.aborted));
-    address = t.address;
+    kind = kind_by c.reset (acknowledge c) command (kind_in t.driver (nobody_in t.aborted));
+    address = address_in t.driver;
     sup = t.sup;
     trap = t.trap;
     drives = t.drives;
     byte = t.byte;
-    distance = t.distance;
+    distance = distance_in t.driver;
   };
-  named = named_in t.address.driven t.driver;
+  named = named_in t.driver;
 }
 
 -- All answers of a board
 
--- the parts of a board's answer, with the kind of the unit that drives, or of nobody
-pub record Whole : Type 0 where
-  pub kind : Kind
-  pub address : Address
-  pub distance : ℕ
-  pub named : Named
-  pub sup : Bool
-  pub trap : Bool
-  pub drives : Bool
-  pub byte : ℕ
-
--- what is held, as an answer for `driver` to give where no later unit drives
-abbrev pub held : Joint → Answer
-held t = record { kind = Ignored; address = t.address; sup = false; trap = false; drives = false; byte = 0; distance = t.distance }
+-- the first of them that drives the address: i is the number of the first unit of the list
+unfoldable pub driver_in : (i : ℕ) → List Answer → Optional Driver
+driver_in i [] = None
+driver_in i (x ∷ xs) = option_or (driving i x) (driver_in (suc i) xs)
 
 -- what is kept and the answers that are still to come will come to; the first of them is unit i's
-unfoldable pub ahead : Joint → (i : ℕ) → List Answer → Whole
+unfoldable pub ahead : Joint → (i : ℕ) → List Answer → Joint
 ahead t i xs = record {
-  kind = cond t.address.driven t.kind (driver (silent (nobody_in (t.aborted || some_of (is_kind Aborted) xs)) false) xs).kind;
-  address = cond t.address.driven t.address (driver (held t) xs).address;
-  distance = cond t.address.driven t.distance (driver (held t) xs).distance;
-  named = cond t.address.driven (Number t.driver) (driver_from i xs);
+  driver = option_or t.driver (driver_in i xs);
+  aborted = t.aborted || some_of (is_kind Aborted) xs;
   sup = t.sup || some_of (λ x. x.sup) xs;
   trap = t.trap || some_of (λ x. x.trap) xs;
   drives = t.drives || some_of (λ x. x.drives) xs;

@@ -1,22 +1,27 @@
 // Ticket 3's joined lines: what a board answers that does not refuse, from the answers of its units, one after another.
 #![tactic(auto)]
 
-ghost use Rattle.std.specs.Prelude.{◌≡◌, cond};
-ghost use Rattle.theorems_runs.specs.Answers.{is_aborted};
+ghost use Rattle.std.specs.Prelude.{◌≡◌};
 ghost use Rattle.board_rules.specs.Board.{kind_by};
-ghost use Rattle.board_answers.specs.Joint.{nothing, joining, quietly, nobody_in, named_in, told};
+ghost use Rattle.board_answers.specs.Joint.{nothing, driving, joining, quietly, told};
 
-use board_rules::{BoardAnswer, Named};
+use board_rules::BoardAnswer;
 use rules::{Address, Answer, Cycle, Kind, Unit};
+use rules_flags::pick;
 
-// The answers so far: kind, address, distance and number of the unit that drives, the address being off where none does; whether it is an
-// aborted fetch in any unit; and the joined lines.
+// The unit that drives the address, by its number, and what its answer says of it.
 #[derive(Clone, Copy)]
-pub struct Joint {
+pub struct Driver {
+    pub unit: u8,
     pub kind: Kind,
     pub address: Address,
     pub distance: u8,
-    pub driver: u8,
+}
+
+// The answers so far: the first unit that drives the address, if one does; whether it is an aborted fetch in any unit; and the joined lines.
+#[derive(Clone, Copy)]
+pub struct Joint {
+    pub driver: Option<Driver>,
     pub aborted: bool,
     pub sup: bool,
     pub trap: bool,
@@ -29,13 +34,7 @@ pub fn nothing() -> Joint
     ensures { result ≡ nothing }
 {
     Joint {
-        kind: Kind::Ignored,
-        address: Address {
-            driven: false,
-            block: 0,
-        },
-        distance: 0,
-        driver: 0,
+        driver: None,
         aborted: false,
         sup: false,
         trap: false,
@@ -44,20 +43,16 @@ pub fn nothing() -> Joint
     }
 }
 
-// An aborted fetch.
-fn aborts(k: Kind) -> bool
-    ensures { result ≡ is_aborted k }
+// The unit of an answer, where it drives the address.
+fn driving(unit: u8, x: Answer) -> Option<Driver>
+    ensures { result ≡ driving unit x }
 {
-    match k {
-        Kind::Reset => false,
-        Kind::Acknowledge => false,
-        Kind::Command => false,
-        Kind::Aborted => true,
-        Kind::Translated => false,
-        Kind::Passed => false,
-        Kind::Ignored => false,
-        Kind::Refused(_) => false,
-    }
+    x.address.driven.then_some(Driver {
+        unit,
+        kind: x.kind,
+        address: x.address,
+        distance: x.distance,
+    })
 }
 
 // One answer more, of unit i. The first unit that drives is the one that is kept.
@@ -65,31 +60,9 @@ fn aborts(k: Kind) -> bool
 pub fn join(t: Joint, i: u8, x: Answer) -> Joint
     ensures { result ≡ joining t i x }
 {
-    let kind = x.kind;
-    let address = x.address;
-    let aborted = t.aborted | aborts(kind);
-    let takes = !t.address.driven & x.address.driven;
-    if takes {
-        return Joint {
-            kind,
-            address,
-            distance: x.distance,
-            driver: i,
-            aborted,
-            sup: t.sup | x.sup,
-            trap: t.trap | x.trap,
-            drives: t.drives | x.drives,
-            byte: t.byte | x.byte,
-        };
-    }
-    let kept = t.kind;
-    let held = t.address;
     Joint {
-        kind: kept,
-        address: held,
-        distance: t.distance,
-        driver: t.driver,
-        aborted,
+        driver: t.driver.or(driving(i, x)),
+        aborted: t.aborted | matches!(x.kind, Kind::Aborted),
         sup: t.sup | x.sup,
         trap: t.trap | x.trap,
         drives: t.drives | x.drives,
@@ -101,63 +74,24 @@ pub fn join(t: Joint, i: u8, x: Answer) -> Joint
 pub fn pass_by(t: Joint, request: bool) -> Joint
     ensures { result ≡ quietly t request }
 {
-    let kind = t.kind;
-    let address = t.address;
     Joint {
-        kind,
-        address,
-        distance: t.distance,
-        driver: t.driver,
-        aborted: t.aborted,
-        sup: t.sup,
         trap: t.trap | request,
-        drives: t.drives,
-        byte: t.byte,
+        ..t
     }
 }
 
-// The kind where nobody drives.
-fn nobody_in(aborted: bool) -> Kind
-    ensures { result ≡ nobody_in aborted }
-{
-    if aborted {
-        Kind::Aborted
-    } else {
-        Kind::Ignored
-    }
-}
-
-// The kind of a board's answer; `k` is that of the unit that drives.
+// The kind of a board's answer; `k` is that of the unit that drives, or of nobody.
 fn kind_by(reset: bool, acknowledge: bool, command: bool, k: Kind) -> Kind
     ensures { result ≡ kind_by reset acknowledge command k }
 {
     if reset {
-        return Kind::Reset;
-    }
-    if acknowledge {
-        return Kind::Acknowledge;
-    }
-    if command {
-        return Kind::Command;
-    }
-    k
-}
-
-// The kind of the unit that drives, or of nobody.
-fn either(driven: bool, k: Kind, nobody: Kind) -> Kind
-    ensures { result ≡ cond driven k nobody }
-{
-    if driven { k } else { nobody }
-}
-
-// The unit that drives, by its number.
-fn named_in(driven: bool, driver: u8) -> Named
-    ensures { result ≡ named_in driven driver }
-{
-    if driven {
-        Named::Number(driver)
+        Kind::Reset
+    } else if acknowledge {
+        Kind::Acknowledge
+    } else if command {
+        Kind::Command
     } else {
-        Named::Nobody
+        k
     }
 }
 
@@ -165,24 +99,21 @@ fn named_in(driven: bool, driver: u8) -> Named
 pub fn told(t: Joint, c: Cycle, command: bool) -> BoardAnswer
     ensures { result ≡ told t c command }
 {
-    let driven = t.address.driven;
-    let own = t.kind;
-    let address = t.address;
-    let nobody = nobody_in(t.aborted);
-    let k = either(driven, own, nobody);
     let acknowledge = !c.reset & (c.status == Unit::ACKNOWLEDGE) & !c.dma;
-    let kind = kind_by(c.reset, acknowledge, command, k);
-    let named = named_in(driven, t.driver);
+    let (kind, address, distance) = match t.driver {
+        Some(d) => (d.kind, d.address, d.distance),
+        None => (pick(t.aborted, Kind::Aborted, Kind::Ignored), Address { driven: false, block: 0 }, 0),
+    };
     BoardAnswer {
         answer: Answer {
-            kind,
+            kind: kind_by(c.reset, acknowledge, command, kind),
             address,
             sup: t.sup,
             trap: t.trap,
             drives: t.drives,
             byte: t.byte,
-            distance: t.distance,
+            distance,
         },
-        named,
+        named: t.driver.map(|d| d.unit),
     }
 }

@@ -3,12 +3,15 @@
 use mathlib.Core.Path.{◌≡◌, refl, sym, ap, ◌∙◌}
 use mathlib.Core.Bool.{Bool, true, false}
 use mathlib.Core.List.{List, [], map}
+use mathlib.Core.Option
 use mathlib.Core.Option.{Option, none}
 use Prim.Native.Nat.{ℕ, ◌≤◌, ◌<◌}
 use native.Mathlib.Omega.{arith}
 use lib.ListN.{length}
 use lib.Seq.{sets}
-use Rattle.rules.specs.Kinds.{number_of}
+use Rattle.rules.specs.Kinds.{number_of, number_in}
+use Rattle.rules.specs.declared.Kind.{Kind}
+use Rattle.rules.specs.declared.Kind.TheVariants.{Reset, Acknowledge, Command, Aborted, Translated, Passed, Ignored, Refused}
 use Rattle.rules.specs.declared.Unit.{Unit}
 use Rattle.unit_stores.specs.Put.{NO_ROOM}
 use Rattle.unit_bytes.specs.Snapshot.{unit_in}
@@ -17,7 +20,7 @@ use Rattle.board_rules.specs.declared.BoardAnswer.{BoardAnswer}
 use Rattle.board_rules.specs.declared.BoardCycle.{BoardCycle}
 use Rattle.theorems_boards.proofs.Lists.{seats_length}
 use Rattle.theorems_boards.proofs.Live.{answer_right, answer_wrong}
-use Rattle.theorems_boards.proofs.Numbers.{verdict_none}
+use Rattle.theorems_boards.proofs.Numbers.{verdict_none, seats_number}
 use Rattle.board_refusals.specs.Judged.{refuses, refusal_in}
 use Rattle.board_refusals.specs.declared.Judged.{Judged}
 use Rattle.board_refusals.proofs.Laws.{Known}
@@ -28,6 +31,17 @@ use Rattle.board_packed.specs.BoardPacked.{board_packed}
 use Rattle.board_bytes.specs.Boarded.{parts_in, units_in, seats_in, board_in, stepped_in, bytes_by, board_bytes}
 use Rattle.board_bytes.specs.Boarded.{no_answer, no_units, no_room, call_number, call_answer, call_units, Boarded}
 use Rattle.board_bytes.proofs.Held.{units-length, units-take, all_plain}
+
+-- a kind that gives no number has the number 0
+no-number : (k : Kind) → number_in k ≡ none → 0 ≡ number_of k
+no-number Reset e = refl
+no-number Acknowledge e = refl
+no-number Command e = refl
+no-number Aborted e = refl
+no-number Translated e = refl
+no-number Passed e = refl
+no-number Ignored e = refl
+no-number (Refused n) e = let z : ◌≡◌ {A = ℕ} 0 1 = cc in absurd (omega arith)
 
 -- A cycle with room, its count being good
 
@@ -58,6 +72,16 @@ module _ (l : List ℕ) (count : ℕ) (c : BoardCycle) (j : Judged) (k : Known j
             (h ∙ ap (λ (ss : List Seat). ahead nothing 0 (map (answer_of c.cycle) ss)) (sym plain)),
         s ∙ sym (ap (λ (v : Option Refusal). bytes_by false v l count c) accepts),
       )
+
+  -- and gives no number
+  pub stepped_number : (a : BoardAnswer) → refuses j c.cycle.read ≡ false → a ≡ seats_answer c.cycle seats → 0 ≡ number_of a.answer.kind
+  stepped_number a e q =
+      let accepts : verdict c.cycle seats ≡ none = verdict_by_lem j c.cycle seats k false e in
+      let without : number_in a.answer.kind ≡ none =
+      ap (λ (x : BoardAnswer). number_in x.answer.kind) q
+      ∙ seats_number c.cycle seats
+      ∙ ap (λ (v : Option Refusal). Option.map (λ (r : Refusal). r.number) v) accepts in
+      no-number a.answer.kind without
 
 -- The whole
 

@@ -1,9 +1,8 @@
 -- A board's answer in eight bytes, and answers one after another.
-use Rattle.std.specs.Prelude.{List, [], ◌∷◌, ◌++◌, ℕ, ◌+◌}
+use Rattle.std.specs.Prelude.{List, [], ◌∷◌, ◌++◌, ℕ, ◌+◌, Some, None}
 use Rattle.unit_packed.specs.Packed.{width, packed}
 use Rattle.board_rules.specs.declared.BoardAnswer.{BoardAnswer}
-use Rattle.board_rules.specs.declared.Named.{Named}
-use Rattle.board_rules.specs.declared.Named.TheVariants.{Nobody, Number}
+use Rattle.board_rules.specs.Board.{Named}
 
 -- the unit that is named stands behind a unit's answer
 abbrev pub named_at : ℕ
@@ -17,8 +16,8 @@ abbrev pub NOBODY : ℕ
 NOBODY = 255
 
 abbrev pub named_byte : Named → ℕ
-named_byte Nobody = NOBODY
-named_byte (Number i) = i
+named_byte None = NOBODY
+named_byte (Some i) = i
 
 unfoldable pub board_packed : BoardAnswer → List ℕ
 board_packed a = packed a.answer ++ (named_byte a.named ∷ [])

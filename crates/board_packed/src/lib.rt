@@ -3,9 +3,9 @@
 
 ghost use Rattle.std.specs.Prelude.{◌≡◌, ◌+◌, ◌≤◌, length};
 ghost use Rattle.std.proofs.lemmas.List.Edits.{sets};
-ghost use Rattle.board_packed.specs.BoardPacked.{board_width, named_byte, board_packed};
+ghost use Rattle.board_packed.specs.BoardPacked.{board_width, board_packed};
 
-use board_rules::{BoardAnswer, Named};
+use board_rules::BoardAnswer;
 use unit_stores::store;
 
 // Where the named unit stands, the bytes of an answer, and the byte that says that none is named.
@@ -14,16 +14,6 @@ pub const NAMED_AT: usize = unit_packed::BYTES;
 pub const BYTES: usize = NAMED_AT + 1;
 
 pub const NOBODY: u8 = 255;
-
-// The named unit as a byte.
-fn named_byte(n: Named) -> u8
-    ensures { result ≡ named_byte n }
-{
-    match n {
-        Named::Nobody => NOBODY,
-        Named::Number(i) => i,
-    }
-}
 
 // An answer's bytes.
 #[tactic(auto, unfolding(crate::specs::BoardPacked::board_packed, unit_packed::specs::Packed::packed))]
@@ -39,7 +29,7 @@ pub fn packed(a: BoardAnswer) -> [u8; BYTES]
         flags,
         byte,
         distance,
-        named_byte(a.named),
+        a.named.unwrap_or(NOBODY),
     ]
 }
 
@@ -48,5 +38,5 @@ pub fn put(out: &mut [u8], at: usize, a: BoardAnswer)
     requires { at + board_width ≤ length out.old }
     ensures { out.new ≡ sets out.old at (board_packed a) }
 {
-    store(out, at, packed(a));
+    store(out, at, &packed(a));
 }

@@ -4,32 +4,42 @@ use mathlib.Core.Path.{◌≡◌, refl, sym, ◌∙◌, ap}
 use mathlib.Core.Bool.{Bool, true, false, not, cond, ◌&&◌, ◌||◌, or-false, or_assoc}
 use mathlib.Core.List.{List, [], ◌∷◌, map}
 use mathlib.Core.Option.{Option, none, some}
+use Rattle.std.specs.Option.{option_or}
+use Rattle.std.specs.Prelude.{Some, None, is_some}
+use Rattle.std.specs.Prelude.{Option as Optional}
 use Prim.Native.Nat.{ℕ, suc}
+use native.Mathlib.Omega.{arith}
 use lib.Dec.{eqb}
 use Rattle.rules.specs.Bus.{cpu, write}
 use Rattle.rules.specs.Codes.{command_of}
+use Rattle.rules.specs.Numbers.{refusal_number}
 use Rattle.rules.specs.Refusals.{damaged, out_of_range}
 use Rattle.rules.specs.declared.Command.{Command}
 use Rattle.rules.specs.declared.Command.TheVariants.{Mr, Sar, Dscr, Show, Entry, Act, Unlisted}
 use Rattle.rules.specs.declared.Cycle.{Cycle}
 use Rattle.rules.specs.declared.Registers.{Registers}
+use Rattle.rules.specs.declared.refusal.Refusal.{Refusal as Reason}
+use Rattle.rules.specs.declared.refusal.Refusal.TheVariants.{OutOfRange, Damaged, NoTrace, OtherVersion, TooMany, WrongLength, PastTheCount}
+use Rattle.rules.specs.declared.refusal.Refusal.TheVariants.{WrongWay, NoRoomToRecord, WrongCount, TwoDrive, SeveralRead, NoRoom}
+use Rattle.rules.specs.declared.refusal.Refusal.TheVariants as reason
 use Rattle.board_rules.specs.Board.{Seat, seen_by, Refusal, nobodys, some_of, two_of, requests, verdict}
-use Rattle.board_rules.specs.declared.Named.TheVariants.{Number}
 use Rattle.theorems_runs.specs.Cycles.{memory_cycle, listed, read_only}
 use Rattle.theorems_runs.specs.Refusal.{earliest}
 use Rattle.theorems_runs.proofs.Codes.{is_show, is_act, is_listed, show-codes, act-codes, listed-codes}
 use Rattle.theorems_boards.specs.Numbers.{seat_number, lowest_from, own_of, seat_drives, seat_commanded, in_order}
 use Rattle.theorems_boards.proofs.Lists.{two_and}
 use Rattle.theorems_boards.proofs.Numbers.{verdict_is}
-use Rattle.board_refusals.specs.Judged.{code_number, asking, own_number_of, unjudged, judging, refuses, refusal_in, Judgement, two_ahead, ahead}
+use Rattle.board_refusals.specs.Judged.{number_given, code_refusal, asking, own_refusal_of, own_number_of, own_verdict, given_or, given, unjudged, judging}
+use Rattle.board_refusals.specs.Judged.{refuses, refusal_by, refusal_in, Judgement, two_ahead, ahead}
 use Rattle.board_refusals.specs.declared.Judged.{Judged}
+use Rattle.board_refusals.specs.declared.Verdict.{Verdict}
 
 -- Own numbers
 
 -- the lowest of a unit and of those behind it, by the four conditions
 lowest_turn : (m : Command) (read two one command select : Bool) (i : ℕ) (os : List (Option ℕ))
-    → cond (eqb (cond two 2 (cond one 1 (cond (command && select) (code_number m read) 0))) 0) (lowest_from (suc i) os)
-    (some (record { number = cond two 2 (cond one 1 (cond (command && select) (code_number m read) 0)); named = Number i }))
+    → cond (eqb (cond two 2 (cond one 1 (cond (command && select) (number_given (code_refusal m read)) 0))) 0) (lowest_from (suc i) os)
+    (some (record { number = cond two 2 (cond one 1 (cond (command && select) (number_given (code_refusal m read)) 0)); named = Some i }))
     ≡ lowest_from i
     (earliest two one ((command && select) && not (is_listed m)) ((command && select) && (not read && is_show m || read && is_act m)) ∷ os)
 unfolding lowest_from
@@ -64,7 +74,7 @@ commanded_is c s = and-three (not c.reset) (eqb c.status 3) (cpu c) s.select
 
 module _ (i : ℕ) (c : Cycle) (s : Seat) (os : List (Option ℕ)) where
   own-next : cond (eqb (own_number_of s.unit.registers s.select (asking c)) 0) (lowest_from (suc i) os)
-      (some (record { number = own_number_of s.unit.registers s.select (asking c); named = Number i }))
+      (some (record { number = own_number_of s.unit.registers s.select (asking c); named = Some i }))
       ≡ lowest_from i (seat_number c s ∷ os)
   unfolding seen_by out_of_range
   own-next =
@@ -82,12 +92,37 @@ module _ (i : ℕ) (c : Cycle) (s : Seat) (os : List (Option ℕ)) where
 
 -- Each part of what is ahead
 
-own_turn : (own n refuser i : ℕ) (later here : Option Refusal) (t : Bool) → eqb n 0 ≡ t
-    → cond (eqb own 0) later (some (record { number = own; named = Number i })) ≡ here
-    → cond (eqb (cond t own n) 0) later (some (record { number = cond t own n; named = Number (cond t i refuser) }))
-    ≡ cond t here (some (record { number = n; named = Number refuser }))
-own_turn own n refuser i later here true e q = q
-own_turn own n refuser i later here false e q = rw e
+-- no reason has the number 0
+positive : (e : Reason) → eqb (refusal_number e) 0 ≡ false
+positive OutOfRange = refl
+positive Damaged = refl
+positive reason.Unlisted = refl
+positive WrongWay = refl
+positive NoTrace = refl
+positive OtherVersion = refl
+positive TooMany = refl
+positive WrongLength = refl
+positive PastTheCount = refl
+positive NoRoomToRecord = refl
+positive WrongCount = refl
+positive TwoDrive = refl
+positive SeveralRead = refl
+positive NoRoom = refl
+
+own_turn : (held : Optional Verdict) (own : Optional Reason) (i : ℕ) (later here : Option Refusal)
+    → cond (eqb (number_given own) 0) later (some (record { number = number_given own; named = Some i })) ≡ here
+    → given_or (option_or held (own_verdict i own)) later ≡ given_or held here
+own_turn (Some v) own i later here q = refl
+own_turn None None i later here q = q
+own_turn None (Some e) i later here q = rw (positive e) at q
+
+-- a unit's own number is that of its reason
+own_is : (two one told : Bool) (o : Optional Reason)
+    → number_given (cond two (Some Damaged) (cond one (Some OutOfRange) (cond told o None))) ≡ cond two 2 (cond one 1 (cond told (number_given o) 0))
+own_is true one told o = refl
+own_is false true told o = refl
+own_is false false true o = refl
+own_is false false false o = refl
 
 two_turn : (p : Seat → Bool) (one two x : Bool) (s : Seat) (ss : List Seat) → x ≡ p s
     → two_ahead p (one || x) (two || (one && x)) ss ≡ two_ahead p one two (s ∷ ss)
@@ -107,8 +142,11 @@ pub judged_turn : (j : Judged) (i : ℕ) (c : Cycle) (s : Seat) (ss : List Seat)
 unfolding judging ahead some_of
 judged_turn j i c s ss =
     let r : Registers = s.unit.registers in
-    let own = own_turn (own_number_of r s.select (asking c)) j.number j.refuser i (lowest_from (suc i) (map (seat_number c) ss))
-    (lowest_from i (seat_number c s ∷ map (seat_number c) ss)) (eqb j.number 0) refl (own-next i c s (map (seat_number c) ss)) in
+    let number = own_is (damaged r) (out_of_range c) ((asking c).command && s.select) (asking c).refusal in
+    let own = own_turn j.own (own_refusal_of r s.select (asking c)) i (lowest_from (suc i) (map (seat_number c) ss))
+    (lowest_from i (seat_number c s ∷ map (seat_number c) ss))
+    (ap (λ (n : ℕ). cond (eqb n 0) (lowest_from (suc i) (map (seat_number c) ss)) (some (record { number = n; named = Some i }))) number
+    ∙ own-next i c s (map (seat_number c) ss)) in
     let clash = two_turn (λ s. memory_cycle c && seat_drives c s) j.drives j.clash (memory_cycle c && seat_drives c s) s ss refl in
     let several = two_turn (seat_commanded c) j.command j.several ((asking c).command && s.select) s ss (commanded_is c s) in
     let command = or_assoc j.command ((asking c).command && s.select) (some_of (seat_commanded c) ss)
@@ -120,7 +158,7 @@ judged_turn j i c s ss =
 
 -- what is known of all seats
 pub record Known (j : Judged) (c : Cycle) (ss : List Seat) : Type 0 where
-  pub own : cond (eqb j.number 0) none (some (record { number = j.number; named = Number j.refuser })) ≡ own_of c ss
+  pub own : given j.own ≡ own_of c ss
   pub clash : j.clash ≡ two_of (λ s. memory_cycle c && seat_drives c s) ss
   pub command : j.command ≡ some_of (seat_commanded c) ss
   pub several : j.several ≡ two_of (seat_commanded c) ss
@@ -143,19 +181,12 @@ known j i c ss e = record {
 
 -- The verdict
 
-verdict_by_lem : (n refuser : ℕ) (clash several read : Bool)
-    → in_order false (cond (eqb n 0) none (some (record { number = n; named = Number refuser }))) clash (read && several)
-    ≡ cond (not (eqb n 0) || (clash || (read && several)))
-    (some (cond (eqb n 0) (cond clash (nobodys 12) (nobodys 13)) (record { number = n; named = Number refuser }))) none
-verdict_by_lem n refuser clash several read = go (eqb n 0) clash (read && several)
-  where
-    go : (t clash both : Bool)
-        → in_order false (cond t none (some (record { number = n; named = Number refuser }))) clash both
-        ≡ cond (not t || (clash || both)) (some (cond t (cond clash (nobodys 12) (nobodys 13)) (record { number = n; named = Number refuser }))) none
-    go false clash both = refl
-    go true true both = refl
-    go true false true = refl
-    go true false false = refl
+verdict_by_lem : (own : Optional Verdict) (clash both : Bool)
+    → in_order false (given own) clash both ≡ cond (is_some own || (clash || both)) (some (refusal_by own clash)) none
+verdict_by_lem (Some v) clash both = refl
+verdict_by_lem None true both = refl
+verdict_by_lem None false true = refl
+verdict_by_lem None false false = refl
 
 -- what the board refuses is what was judged
 pub verdict_known : (j : Judged) (c : Cycle) (ss : List Seat) → Known j c ss
@@ -163,9 +194,15 @@ pub verdict_known : (j : Judged) (c : Cycle) (ss : List Seat) → Known j c ss
 verdict_known j c ss k =
     verdict_is c ss
     ∙ ap (λ (o : Option Refusal). in_order false o (memory_cycle c && two_of (seat_drives c) ss) (c.read && two_of (seat_commanded c) ss)) (sym k.own)
-    ∙ ap (λ (t : Bool). in_order false held t (c.read && two_of (seat_commanded c) ss)) (sym (two_and (memory_cycle c) (seat_drives c) ss) ∙ sym k.clash)
-    ∙ ap (λ (t : Bool). in_order false held j.clash (c.read && t)) (sym k.several)
-    ∙ verdict_by_lem j.number j.refuser j.clash j.several c.read
-  where
-    held : Option Refusal
-    held = cond (eqb j.number 0) none (some (record { number = j.number; named = Number j.refuser }))
+    ∙ ap (λ (t : Bool). in_order false (given j.own) t (c.read && two_of (seat_commanded c) ss)) (sym (two_and (memory_cycle c) (seat_drives c) ss) ∙ sym k.clash)
+    ∙ ap (λ (t : Bool). in_order false (given j.own) j.clash (c.read && t)) (sym k.several)
+    ∙ verdict_by_lem j.own j.clash (c.read && j.several)
+
+-- what a verdict of `refuses` says
+pub refused_by : (b : Bool) (r s : Refusal) → some r ≡ cond b (some s) none → (b ≡ true) × (r ≡ s)
+refused_by true r s e = (refl, cc)
+refused_by false r s e = let z : ◌≡◌ {A = ℕ} 0 1 = cc in absurd (omega arith)
+
+pub accepted_by : (b : Bool) (s : Refusal) → none ≡ cond b (some s) none → b ≡ false
+accepted_by true s e = let z : ◌≡◌ {A = ℕ} 0 1 = cc in absurd (omega arith)
+accepted_by false s e = refl

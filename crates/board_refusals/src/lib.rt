@@ -1,42 +1,40 @@
 // Ticket 3's refusals: what a board refuses, judged from the registers of its units, one after another, before any unit is touched.
 #![tactic(auto)]
 
-ghost use Rattle.std.specs.Prelude.{◌≡◌};
+ghost use Rattle.std.specs.Prelude.{◌≡◌, cond};
+ghost use Rattle.std.proofs.Math.Option.{some, none};
 ghost use Rattle.board_rules.specs.Board.{refusing};
 ghost use Rattle.theorems_boards.specs.Numbers.{may_drive};
-ghost use Rattle.board_refusals.specs.Judged.{read_number, write_number, asking, own_number_of, unjudged, judging, refuses, refusal_in};
+ghost use Rattle.board_refusals.specs.Judged.{code_refusal, number_given, code_number, asking, own_refusal_of, own_number_of, unjudged, judging, refuses, refusal_in, given};
 
-use board_rules::{Board, BoardAnswer, Named};
+use board_rules::BoardAnswer;
 use command_codes::decode;
+use rules::refusal::Refusal;
 use rules::{Command, Cycle, Kind, Registers, Unit};
-use rules_flags::pick;
 use unit_dispatch::refusals;
 
-// The numbers of a unit's own refusals: a cycle past its numbers, a damaged unit, a code not listed, the wrong way.
-const OUTSIDE: u8 = 1;
-
-const DAMAGED: u8 = 2;
-
-const UNLISTED: u8 = 3;
-
-const WRONG_WAY: u8 = 4;
-
-// What a cycle asks of every unit alike: whether it is past its numbers, a memory cycle, a command to the units that are selected, and the
-// number that says no to this command.
+// What a cycle asks of every unit alike: whether it is past its numbers, a memory cycle, a command to the units that are selected, and why
+// this command is refused, if it is.
 #[derive(Clone, Copy)]
 pub struct Asked {
     pub outside: bool,
     pub memory: bool,
     pub command: bool,
-    pub number: u8,
+    pub refusal: Option<Refusal>,
 }
 
-// What is known of the units that were judged so far: the lowest one's own number and the unit, whether one of them drives the address and
-// whether two do, whether one takes a command and whether two do, and whether a request stands. Number 0: no unit refuses.
+// Why a board refuses, and the number of the unit whose own refusal it is, if it is one's.
+#[derive(Clone, Copy)]
+pub struct Verdict {
+    pub refusal: Refusal,
+    pub named: Option<u8>,
+}
+
+// What is known of the units that were judged so far: the lowest one's own refusal, whether one of them drives the address and whether two do,
+// whether one takes a command and whether two do, and whether a request stands.
 #[derive(Clone, Copy)]
 pub struct Judged {
-    pub number: u8,
-    pub refuser: u8,
+    pub own: Option<Verdict>,
     pub drives: bool,
     pub clash: bool,
     pub command: bool,
@@ -44,33 +42,16 @@ pub struct Judged {
     pub stood: bool,
 }
 
-// The number that says no to a command's read, and 0 for none: those of set and clear commands.
-fn read_number(m: Command) -> u8
-    ensures { result ≡ read_number m }
+// Why a command is refused in this direction, if it is: a read of a set or clear command, a write of a read-only register.
+fn code_refusal(m: Command, read: bool) -> Option<Refusal>
+    ensures refusal { result ≡ code_refusal m read }
+    ensures number { number_given result ≡ code_number m read }
 {
     match m {
-        Command::Mr => 0,
-        Command::Sar => 0,
-        Command::Dscr => 0,
-        Command::Show(_) => 0,
-        Command::Entry(_) => 0,
-        Command::Act(_) => WRONG_WAY,
-        Command::Unlisted => UNLISTED,
-    }
-}
-
-// The number that says no to a command's write, and 0 for none: those of read-only registers.
-fn write_number(m: Command) -> u8
-    ensures { result ≡ write_number m }
-{
-    match m {
-        Command::Mr => 0,
-        Command::Sar => 0,
-        Command::Dscr => 0,
-        Command::Show(_) => WRONG_WAY,
-        Command::Entry(_) => 0,
-        Command::Act(_) => 0,
-        Command::Unlisted => UNLISTED,
+        Command::Unlisted => Some(Refusal::Unlisted),
+        Command::Act(_) => read.then_some(Refusal::WrongWay),
+        Command::Show(_) => (!read).then_some(Refusal::WrongWay),
+        _ => None,
     }
 }
 
@@ -78,13 +59,11 @@ fn write_number(m: Command) -> u8
 pub fn ask(c: Cycle) -> Asked
     ensures { result ≡ asking c }
 {
-    let outside = refusals::out_of_range(c);
-    let m = decode::command(c.offset);
     Asked {
-        outside,
+        outside: refusals::out_of_range(c),
         memory: !c.reset & ((8 <= c.status) & (c.status <= 13)),
         command: !c.reset & (c.status == Unit::COMMAND) & !c.dma,
-        number: pick(c.read, read_number(m), write_number(m)),
+        refusal: code_refusal(decode::command(c.offset), c.read),
     }
 }
 
@@ -97,13 +76,21 @@ pub fn may_drive(mr: u8, c: Cycle) -> bool
     (mr & Unit::MSEN != 0) & (!(mr & Unit::TRNS != 0) | (half & (!(mr & Unit::MST != 0) | mode)))
 }
 
-// A unit's own number, and 0 for none.
-fn own_number_of(r: Registers, select: bool, q: Asked) -> u8
-    ensures { result ≡ own_number_of r select q }
+// A unit's own refusal, if it has one.
+fn own_refusal(r: Registers, select: bool, q: Asked) -> Option<Refusal>
+    ensures refusal { result ≡ own_refusal_of r select q }
+    ensures number { number_given result ≡ own_number_of r select q }
 {
-    let code = pick(q.command & select, q.number, 0);
-    let healthy = pick(q.outside, OUTSIDE, code);
-    pick(refusals::damaged(r), DAMAGED, healthy)
+    if refusals::damaged(r) {
+        return Some(Refusal::Damaged);
+    }
+    if q.outside {
+        return Some(Refusal::OutOfRange);
+    }
+    if q.command & select {
+        return q.refusal;
+    }
+    None
 }
 
 // No unit was judged yet.
@@ -111,8 +98,7 @@ pub fn unjudged() -> Judged
     ensures { result ≡ unjudged }
 {
     Judged {
-        number: 0,
-        refuser: 0,
+        own: None,
         drives: false,
         clash: false,
         command: false,
@@ -121,18 +107,16 @@ pub fn unjudged() -> Judged
     }
 }
 
-// One unit more, unit i.
+// One unit more, unit i. The first refusal is the one that is kept.
 #[tactic(auto, unfolding(crate::specs::Judged::judging))]
 pub fn judge(j: Judged, i: u8, r: Registers, select: bool, c: Cycle, q: Asked) -> Judged
     ensures { result ≡ judging j i r select c q }
 {
-    let own = own_number_of(r, select, q);
-    let first = j.number == 0;
+    let own = own_refusal(r, select, q).map(|refusal| Verdict { refusal, named: Some(i) });
     let drives = q.memory & may_drive(r.control.mr, c);
     let command = q.command & select;
     Judged {
-        number: pick(first, own, j.number),
-        refuser: pick(first, i, j.refuser),
+        own: j.own.or(own),
         drives: j.drives | drives,
         clash: j.clash | (j.drives & drives),
         command: j.command | command,
@@ -141,32 +125,23 @@ pub fn judge(j: Judged, i: u8, r: Registers, select: bool, c: Cycle, q: Asked) -
     }
 }
 
-// The board refuses the cycle; `read` is its direction.
-pub fn refuses(j: Judged, read: bool) -> bool
-    ensures { result ≡ refuses j read }
+// Why the board refuses the cycle, if it does; `read` is its direction.
+pub fn refuses(j: Judged, read: bool) -> Option<Verdict>
+    ensures { given result ≡ cond (refuses j read) (some (refusal_in j)) none }
 {
-    !(j.number == 0) | (j.clash | (read & j.several))
+    if j.own.is_some() {
+        return j.own;
+    }
+    if j.clash {
+        return Some(Verdict { refusal: Refusal::TwoDrive, named: None });
+    }
+    (read & j.several).then_some(Verdict { refusal: Refusal::SeveralRead, named: None })
 }
 
-// A refusal's answer: nothing driven, SUP off.
-pub fn refused(number: u8, named: Named, trap: bool) -> BoardAnswer
+// A refusal's answer: nothing driven, SUP off. It takes any number, as it always did: a type that has only some would ask more of its callers.
+pub fn refused(number: u8, named: Option<u8>, trap: bool) -> BoardAnswer
     ensures { result ≡ refusing (record { number = number; named = named }) trap }
 {
     let answer = rules_answers::spoken(Kind::Refused(number), trap, false, 0);
     BoardAnswer { answer, named }
-}
-
-// The answer of a board that refuses.
-pub fn refusal(j: Judged) -> BoardAnswer
-    ensures { result ≡ refusing (refusal_in j) j.stood }
-{
-    let nobodys = j.number == 0;
-    let clash = j.clash;
-    if nobodys {
-        if clash {
-            return refused(Board::TWO_DRIVE, Named::Nobody, j.stood);
-        }
-        return refused(Board::SEVERAL_READ, Named::Nobody, j.stood);
-    }
-    refused(j.number, Named::Number(j.refuser), j.stood)
 }

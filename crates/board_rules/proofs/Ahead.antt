@@ -2,8 +2,8 @@
 -- Assumes nothing.
 use mathlib.Core.Path.{◌≡◌, refl, sym, ap, ◌∙◌}
 use mathlib.Core.List.{List, [], ◌∷◌, ◌++◌, map, append_assoc, append-nil}
-use Prim.Native.Nat.{ℕ, zero, suc, ◌+◌, ◌<◌, ◌≤◌, ◌/◌, ◌%◌}
-use native.Mathlib.Nat.{le_of_suc-le-suc, not-suc-le-zero}
+use Prim.Native.Nat.{ℕ, zero, suc, ◌+◌, ◌<◌, ◌≤◌, ◌/◌, ◌%◌, ◌^◌}
+use native.Mathlib.Nat.{le_of_suc-le-suc, not-suc-le-zero, div-div-eq-div-mul, pow-suc}
 use native.Mathlib.Numerals.{add-one, unary_clauses}
 use native.Mathlib.Omega.{arith}
 use lib.Dec.{eqb}
@@ -32,10 +32,25 @@ drop_none zero (x ∷ xs) h = absurd (not-suc-le-zero h)
 drop_none (suc n) [] h = refl
 drop_none (suc n) (x ∷ xs) h = drop_none n xs (le_of_suc-le-suc h)
 
+-- the select bits behind those of i + 1 seats
+pub select_next : (i selects : ℕ) → selects / 2 ^ i / 2 ≡ selects / 2 ^ (i + 1)
+select_next i selects =
+    div-div-eq-div-mul selects (2 ^ i) 2 ∙ ap (λ (k : ℕ). selects / k) (sym (pow-suc 2 i)) ∙ ap (λ (k : ℕ). selects / 2 ^ k) (sym (add-one i))
+
 -- none is left
 pub rest_none : (us : List Unit) (count left : ℕ) → rest us count count left ≡ []
 unfolding seated
 rest_none us count left = let short : length (take count us) ≤ count = simp length-take (omega arith) in rw (drop_none count (take count us) short)
+
+-- one more of them is mapped
+pub mapped_turn : {A : Type 0} (f : Seat → A) (out : List A) (i : ℕ) (a : A) (s : Seat) (now next : List Seat) → i < length out → a ≡ f s
+    → now ≡ s ∷ next → take (i + 1) (set out i a) ++ map f next ≡ take i out ++ map f now
+mapped_turn {A} f out i a s now next room e here =
+    ap (λ (k : ℕ). take k (set out i a) ++ map f next) (add-one i)
+    ∙ ap (λ (l : List A). l ++ map f next) (take-suc-set out i a room)
+    ∙ append_assoc (take i out) (a ∷ []) (map f next)
+    ∙ ap (λ (x : A). take i out ++ (x ∷ map f next)) e
+    ∙ ap (λ (l : List Seat). take i out ++ map f l) (sym here)
 
 module _ {A : Type 0} (f : Seat → A) (us : List Unit) (count selects : ℕ) where
   -- the first i elements, and what the others will be
@@ -45,11 +60,8 @@ module _ {A : Type 0} (f : Seat → A) (us : List Unit) (count selects : ℕ) wh
   pub ahead_turn : (out : List A) (i left : ℕ) (d : Unit) (a : A) → i < count → count ≤ length us → i < length out
       → a ≡ f (record { unit = get_or us i d; select = eqb (left % 2) 1 }) → Ahead out i left → Ahead (set out i a) (i + 1) (left / 2)
   ahead_turn out i left d a h fits room e before =
-      ap (λ (k : ℕ). take k (set out i a) ++ map f (rest us count (i + 1) (left / 2))) (add-one i)
-      ∙ ap (λ (l : List A). l ++ map f (rest us count (i + 1) (left / 2))) (take-suc-set out i a room)
-      ∙ append_assoc (take i out) (a ∷ []) (map f (rest us count (i + 1) (left / 2)))
-      ∙ ap (λ (x : A). take i out ++ (x ∷ map f (rest us count (i + 1) (left / 2)))) e
-      ∙ ap (λ (l : List Seat). take i out ++ map f l) (sym (rest_next us count i left d h fits))
+      mapped_turn f out i a (record { unit = get_or us i d; select = eqb (left % 2) 1 }) (rest us count i left) (rest us count (i + 1) (left / 2))
+      room e (rest_next us count i left d h fits)
       ∙ before
 
 -- two lists that agree from i on
@@ -69,11 +81,3 @@ module _ {A : Type 0} (f : Seat → A) (us : List Unit) (count selects : ℕ) wh
       sym (append-nil (take count out))
       ∙ ap (λ (l : List Seat). take count out ++ map f l) (sym (rest_none us count left))
       ∙ rw e at h
-
-module _ (f : Seat → Unit) (us : List Unit) (count selects : ℕ) where
-  pub whole : (out : List Unit) (i left : ℕ) → i ≡ count → Ahead f us count selects out i left → drop i out ≡ drop i us
-      → out ≡ map f (seated (take count us) selects) ++ drop count us
-  whole out i left e h agree =
-      sym (take-append-drop count out)
-      ∙ ap (λ (l : List Unit). l ++ drop count out) (ended f us count selects out i left e h)
-      ∙ ap (λ (l : List Unit). map f (seated (take count us) selects) ++ l) (rw e at agree)

@@ -1,7 +1,8 @@
 -- Ticket 3, the sixteen-unit board: what a board of any number of units answers, and the board after a cycle.
 -- All is said of a list of seats, a seat being a unit with its select bit. Every unit is decided with its own select, the board's refusals are
 -- judged on these answers, and only where it refuses none is any unit stepped.
-use Rattle.std.specs.Prelude.{Bool, true, false, cond, ◌&&◌, ◌||◌, List, [], ◌∷◌, ◌++◌, map, ℕ, suc, ◌/◌, ◌%◌, eqb, ltb, take, drop}
+use Rattle.std.specs.Prelude.{Bool, true, false, cond, ◌&&◌, ◌||◌, List, [], ◌∷◌, ◌++◌, map, ℕ, suc, ◌/◌, ◌%◌, eqb, ltb, take, drop, Some, None}
+use Rattle.std.specs.Prelude.{Option as Optional}
 use Rattle.std.proofs.Math.Option.{Option, none, some}
 use Rattle.std.specs.Int.Bits.{bit_or}
 use Rattle.rules.specs.Kinds.{letter_of, number_in}
@@ -17,8 +18,6 @@ use Rattle.board_rules.specs.declared.Board.{Board}
 use Rattle.board_rules.specs.declared.BoardAnswer.{BoardAnswer}
 use Rattle.board_rules.specs.declared.BoardCycle.{BoardCycle}
 use Rattle.board_rules.specs.declared.BoardStepped.{BoardStepped}
-use Rattle.board_rules.specs.declared.Named.{Named}
-use Rattle.board_rules.specs.declared.Named.TheVariants.{Nobody, Number}
 
 -- Seats: "A cycle carries a select bit for each unit [..] and goes to all."
 
@@ -73,13 +72,17 @@ two_of p (x ∷ l) = cond (p x) (some_of p l) (two_of p l)
 
 -- Refusals
 
+-- the number of a unit, where there is one to name
+abbrev pub Named : Type 0
+Named = Optional ℕ
+
 -- a refusal: its number, and the unit that it names
 pub record Refusal : Type 0 where
   pub number : ℕ
   pub named : Named
 
 abbrev pub nobodys : (number : ℕ) → Refusal
-nobodys n = record { number = n; named = Nobody }
+nobodys n = record { number = n; named = None }
 
 -- "11, unit count not 1 to 16"
 abbrev pub wrong_count : (count : ℕ) → Bool
@@ -87,7 +90,7 @@ wrong_count n = eqb n 0 || ltb 16 n
 
 -- "any unit's own refusal, lowest unit first": i is the number of the first unit of the list
 abbrev pub own_by : Option ℕ → (i : ℕ) → (later : Option Refusal) → Option Refusal
-own_by (some n) i later = some (record { number = n; named = Number i })
+own_by (some n) i later = some (record { number = n; named = Some i })
 own_by none i later = later
 
 unfoldable pub own_from : (i : ℕ) → List Answer → Option Refusal
@@ -142,8 +145,8 @@ driver x (y ∷ ys) = cond (on_lines y) y (driver x ys)
 
 -- which unit drove the address: i is the number of the first unit of the list
 unfoldable pub driver_from : (i : ℕ) → List Answer → Named
-driver_from i [] = Nobody
-driver_from i (y ∷ ys) = cond (on_lines y) (Number i) (driver_from (suc i) ys)
+driver_from i [] = None
+driver_from i (y ∷ ys) = cond (on_lines y) (Some i) (driver_from (suc i) ys)
 
 -- "acknowledge lines are joined: a line is high if any unit drives it so"
 unfoldable pub joined_byte : List Answer → ℕ

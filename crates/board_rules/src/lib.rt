@@ -21,18 +21,11 @@ pub struct BoardCycle {
     pub selects: u16,
 }
 
-// The unit that an answer names.
-#[derive(Clone, Copy)]
-pub enum Named {
-    Nobody,
-    Number(u8),
-}
-
-// What the board drives, and the unit that drove the address or refused.
+// What the board drives, and the number of the unit that drove the address or refused, if one did.
 #[derive(Clone, Copy)]
 pub struct BoardAnswer {
     pub answer: Answer,
-    pub named: Named,
+    pub named: Option<u8>,
 }
 
 // The board after a cycle, and the cycle's answer.
@@ -47,28 +40,12 @@ impl Board {
     pub const UNITS: usize = 16;
 
     pub const MOST: u8 = Board::UNITS as u8;
-    // ---- the numbers that say no: a count that is not 1 to 16, two units that would drive the address, a command read that selects several
-    pub const WRONG_COUNT: u8 = 11;
-
-    pub const TWO_DRIVE: u8 = 12;
-
-    pub const SEVERAL_READ: u8 = 13;
 }
 
 // The cycle as a unit sees it, with its own select.
+#[tactic(auto, unfolding(crate::specs::Board::seen_by))]
 pub fn seen_by(c: Cycle, select: bool) -> Cycle
     ensures { result ≡ seen_by select c }
 {
-    Cycle {
-        status: c.status,
-        read: c.read,
-        normal: c.normal,
-        dma: c.dma,
-        select,
-        segment: c.segment,
-        offset: c.offset,
-        low: c.low,
-        byte: c.byte,
-        reset: c.reset,
-    }
+    Cycle { select, ..c }
 }

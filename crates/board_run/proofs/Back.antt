@@ -1,10 +1,10 @@
--- What one turn does in the two loops that go over the registers from the last unit to the first.
+-- What one turn does in the loop that goes over the registers from the last unit to the first.
 -- Assumes nothing.
 use mathlib.Core.Path.{◌≡◌, refl, sym, ap, ◌∙◌, subst}
 use mathlib.Core.Bool.{Bool, true, false, cond, ◌&&◌, ◌||◌, false≢true}
 use mathlib.Core.List.{List, [], ◌∷◌}
 use Prim.Native.Nat.{ℕ, zero, suc, ◌+◌, ◌*◌, ◌-◌, ◌/◌, ◌%◌, ◌<◌, ◌≤◌, ◌^◌}
-use native.Mathlib.Nat.{pow-succ', pow-le-pow_right}
+use native.Mathlib.Nat.{pow-succ'}
 use native.Mathlib.Omega.{arith}
 use lib.Dec.{eqb}
 use lib.ListN.{get_or}
@@ -14,7 +14,7 @@ use Rattle.rules.specs.declared.Cycle.{Cycle}
 use Rattle.rules.specs.declared.Registers.{Registers}
 use Rattle.board_rules.specs.Board.{Seat, seated, some_of, two_of}
 use Rattle.theorems_boards.specs.Numbers.{may_drive, seat_drives}
-use Rattle.board_run.specs.Plan.{units_from, Off, DrivingFrom, asks_from}
+use Rattle.board_run.specs.Plan.{units_from, Off, DrivingFrom}
 use Rattle.board_run.proofs.Classes.{memory_class, memory-concerns}
 
 -- what is known of the units from k on, k being one lower
@@ -24,16 +24,7 @@ lower P k count h l p = let e : suc (count - k) ≡ count - (k - 1) = omega arit
 pub higher : (P : ℕ → ℕ → Type 0) (k count : ℕ) → 0 < k → P k (count - k) → P (suc (k - 1)) (count - k)
 higher P k count h p = let e : k ≡ suc (k - 1) = omega arith in subst (λ (n : ℕ). P n (count - k)) e p
 
-pub lowest : (P : ℕ → ℕ → Type 0) (k count : ℕ) → k ≡ 0 → P k (count - k) → P 0 count
-lowest P k count e p =
-    let f : count - 0 ≡ count = omega arith in
-    subst (λ (n : ℕ). P 0 n) f (subst (λ (n : ℕ). P n (count - n)) e p)
-
 -- the mask has a bit for each unit from k on, counted as if there were sixteen
-pub bit_small : (b : Bool) → bool_byte b ≤ 1
-bit_small true = omega arith
-bit_small false = omega arith
-
 pub power_positive : (n : ℕ) → 0 < 2 ^ n
 power_positive zero = omega arith
 power_positive (suc n) = let h : 0 < 2 ^ n = power_positive n in rw (pow-succ' 2 n) (omega arith)
@@ -42,19 +33,6 @@ pub mask_bound : (k mask b : ℕ) → 0 < k → k ≤ 16 → b ≤ 1 → mask < 
 mask_bound k mask b h l small m =
     let e : 16 - (k - 1) ≡ suc (16 - k) = omega arith in
     rw (e, pow-succ' 2 (16 - k)) (omega arith)
-
-pub mask_fits : (k mask : ℕ) → mask < 2 ^ (16 - k) → mask < 65536
-mask_fits k mask m =
-    let less : 16 - k ≤ 16 = omega arith in
-    let two : 1 ≤ 2 = omega arith in
-    let most : 2 ^ (16 - k) ≤ 2 ^ 16 = pow-le-pow_right two less in
-    omega (arith, most)
-
--- requests
-pub asks_turn : (rs : List Registers) (k n : ℕ) (t : Bool) → t ≡ asks_from rs (suc k) n
-    → ((get_or rs k power_on.registers).notes.request || t) ≡ asks_from rs k (suc n)
-unfolding asks_from
-asks_turn rs k n t e = ap (λ (b : Bool). (get_or rs k power_on.registers).notes.request || b) e
 
 -- drivers
 

@@ -8,16 +8,19 @@ use Prim.Native.Nat.{ℕ, suc, ◌≤◌}
 use native.Mathlib.Omega.{arith}
 use lib.Dec.{eqb, leb}
 use borrow.Author.Tests.{leb-true, eqb-true, ne_eqb, not-true}
+use Rattle.std.specs.Prelude.{Some, None}
+use Rattle.std.specs.Prelude.{Option as Optional}
 use Rattle.rules.specs.Bus.{cpu}
 use Rattle.rules.specs.Refusals.{damaged, out_of_range}
 use Rattle.rules.specs.declared.Cycle.{Cycle}
 use Rattle.rules.specs.declared.Registers.{Registers}
+use Rattle.rules.specs.declared.refusal.Refusal.{Refusal as Reason}
+use Rattle.rules.specs.declared.refusal.Refusal.TheVariants.{OutOfRange, Damaged}
 use Rattle.theorems_runs.specs.Cycles.{acknowledge}
 use Rattle.theorems_runs.proofs.Tests.{and_l, and_r}
 use Rattle.board_rules.specs.Board.{Seat}
-use Rattle.board_rules.specs.declared.Named.TheVariants.{Number}
 use Rattle.theorems_boards.specs.Numbers.{may_drive, seat_number, lowest_from, seat_commanded}
-use Rattle.board_refusals.specs.Judged.{Judgement, asking, concerns, unjudged, judging, ahead}
+use Rattle.board_refusals.specs.Judged.{Judgement, asking, concerns, own_verdict, given_or, unjudged, judging, ahead}
 use Rattle.board_refusals.proofs.Laws.{judged_turn, commanded_is}
 
 module _ (c : Cycle) where
@@ -77,21 +80,19 @@ module _ (c : Cycle) where
     pub other-concerns : Class false false false → concerns r s c (asking c) ≡ false
     other-concerns k = rw (k.all_is, k.command_is, k.memory_is)
 
-  -- a healthy unit's own number, where the cycle is in range, is the command's
+  -- a healthy unit's own refusal, where the cycle is in range, is the command's
   module _ (in_range : out_of_range c ≡ false) where
-    abbrev numbered : (select : Bool) → ℕ
-    numbered select = cond ((asking c).command && select) (asking c).number 0
+    abbrev told : (select : Bool) → Optional Reason
+    told select = cond ((asking c).command && select) (asking c).refusal None
 
     pub own-next : (i : ℕ) (s : Seat) (ss : List Seat) → damaged s.unit.registers ≡ false
-        → lowest_from i (map (seat_number c) (s ∷ ss))
-        ≡ cond (eqb (numbered s.select) 0) (lowest_from (suc i) (map (seat_number c) ss))
-        (some (record { number = numbered s.select; named = Number i }))
+        → lowest_from i (map (seat_number c) (s ∷ ss)) ≡ given_or (own_verdict i (told s.select)) (lowest_from (suc i) (map (seat_number c) ss))
     unfolding judging ahead
     own-next i s ss sound =
         sym (ap (λ (k : Judgement). k.own) (judged_turn unjudged i c s ss))
-        ∙ ap (λ (n : ℕ). cond (eqb n 0) (lowest_from (suc i) (map (seat_number c) ss)) (some (record { number = n; named = Number i })))
-        (ap (λ (b : Bool). cond b 2 (cond (out_of_range c) 1 (numbered s.select))) sound
-        ∙ ap (λ (b : Bool). cond b 1 (numbered s.select)) in_range)
+        ∙ ap (λ (o : Optional Reason). given_or (own_verdict i o) (lowest_from (suc i) (map (seat_number c) ss)))
+        (ap (λ (b : Bool). cond b (Some Damaged) (cond (out_of_range c) (Some OutOfRange) (told s.select))) sound
+        ∙ ap (λ (b : Bool). cond b (Some OutOfRange) (told s.select)) in_range)
 
   -- no command: no unit takes one
   pub uncommanded : (asking c).command ≡ false → (s : Seat) → seat_commanded c s ≡ false

@@ -9,18 +9,21 @@ use native.Mathlib.Nat.{not-suc-le-zero, le_of_suc-le-suc}
 use native.Mathlib.Omega.{arith}
 use lib.Dec.{eqb}
 use lib.ListN.{length}
+use Rattle.std.specs.Prelude.{Some, None, is_some, unwrap_or}
+use Rattle.std.specs.Prelude.{Option as Optional}
 use Rattle.rules.specs.Refusals.{out_of_range}
 use Rattle.rules.specs.declared.Cycle.{Cycle}
 use Rattle.rules.specs.declared.Unit.{Unit}
+use Rattle.rules.specs.declared.refusal.Refusal.{Refusal as Reason}
 use Rattle.theorems_runs.specs.Cycles.{memory_cycle}
 use Rattle.theorems_runs.specs.Sequences.{Every}
 use Rattle.board_rules.specs.Board.{Seat, seated, Refusal, some_of, two_of, requests}
-use Rattle.board_rules.specs.declared.Named.TheVariants.{Number}
 use Rattle.theorems_boards.specs.Numbers.{seat_number, seat_drives, seat_commanded, lowest_from}
-use Rattle.board_refusals.specs.Judged.{asking}
+use Rattle.board_refusals.specs.Judged.{asking, own_verdict, given_or, given}
 use Rattle.board_refusals.specs.declared.Judged.{Judged}
+use Rattle.board_refusals.specs.declared.Verdict.{Verdict}
 use Rattle.board_refusals.proofs.Laws.{Known}
-use Rattle.board_run.specs.Plan.{any_on, several_on, first_on, Off, Healthy, judged_with}
+use Rattle.board_run.specs.Plan.{any_on, several_on, first_on, Off, Healthy, first_verdict, judged_with}
 use Rattle.board_run.proofs.Classes.{Class, command-concerns, other-concerns, own-next, uncommanded, commanded}
 
 -- Lists
@@ -70,14 +73,6 @@ other-off c k mask (s ∷ ss) = ((λ e. other-concerns c s.unit.registers s.sele
 
 -- What the board refuses
 
--- unit k's refusal by this number, if any
-abbrev by : (n k : ℕ) → Option Refusal
-by n k = some (record { number = n; named = Number k })
-
-none_either : (z : Bool) → ◌≡◌ {A = Option Refusal} none (cond z none none)
-none_either true = refl
-none_either false = refl
-
 module _ (c : Cycle) (in_range : out_of_range c ≡ false) where
   own_none : (asking c).command ≡ false → (i : ℕ) (ss : List Seat) → Every Healthy ss → lowest_from i (map (seat_number c) ss) ≡ none
   unfolding lowest_from
@@ -86,10 +81,10 @@ module _ (c : Cycle) (in_range : out_of_range c ≡ false) where
 
   -- where no unit is commanded, only two that drive have the board refuse
   pub uncommanded_known : (asking c).command ≡ false → (j : Judged) (stood : Bool) (ss : List Seat) → Every Healthy ss
-      → j.number ≡ 0 → j.command ≡ false → j.several ≡ false → j.clash ≡ two_of (λ s. memory_cycle c && seat_drives c s) ss
+      → j.own ≡ None → j.command ≡ false → j.several ≡ false → j.clash ≡ two_of (λ s. memory_cycle c && seat_drives c s) ss
       → stood ≡ some_of requests ss → Known (judged_with j stood) c ss
-  uncommanded_known e j stood ss h zero_number no_command no-several clash asks = record {
-    own = rw zero_number (sym (own_none e 0 ss h));
+  uncommanded_known e j stood ss h no-own no_command no-several clash asks = record {
+    own = rw no-own (sym (own_none e 0 ss h));
     clash = clash;
     command = no_command ∙ sym (some_none (seat_commanded c) (uncommanded c e) ss);
     several = no-several ∙ sym (two_none (seat_commanded c) (uncommanded c e) ss);
@@ -104,28 +99,29 @@ module _ (c : Cycle) (in_range : out_of_range c ≡ false) where
       (two_same (seat_drives c) (λ s. memory_cycle c && seat_drives c s) (λ s. sym (ap (λ (b : Bool). b && seat_drives c s) e)) ss).1
 
   module _ (e : (asking c).command ≡ true) where
-    abbrev N : ℕ
-    N = (asking c).number
+    abbrev why : Optional Reason
+    why = (asking c).refusal
 
-    -- the first that is selected gives the command's number
+    -- the first that is selected gives the command's refusal
     abbrev firsts : (i n left : ℕ) → Option Refusal
-    firsts i n left = cond (eqb N 0) none (cond (any_on n left) (by N (first_on i n left)) none)
+    firsts i n left = given (cond (any_on n left) (own_verdict (first_on i n left) why) None)
 
     own_first : (i : ℕ) (us : List Unit) (left : ℕ) → Every Healthy (seated us left)
         → lowest_from i (map (seat_number c) (seated us left)) ≡ firsts i (length us) left
     unfolding lowest_from seated any_on first_on
-    own_first i [] left h = none_either (eqb N 0)
+    own_first i [] left h = refl
     own_first i (u ∷ us) left h =
         own-next c in_range i (record { unit = u; select = eqb (left % 2) 1 }) (seated us (left / 2)) h.0
-        ∙ rw (e, own_first (suc i) us (left / 2) h.1) (go (eqb (left % 2) 1) (eqb N 0) refl (any_on (length us) (left / 2)))
+        ∙ rw (e, own_first (suc i) us (left / 2) h.1) (go (eqb (left % 2) 1) why (any_on (length us) (left / 2)))
       where
-        go : (on z : Bool) → eqb N 0 ≡ z → (more : Bool)
-            → cond (eqb (cond on N 0) 0) (cond (eqb N 0) none (cond more (by N (first_on (suc i) (length us) (left / 2))) none)) (by (cond on N 0) i)
-            ≡ cond (eqb N 0) none (cond (on || more) (by N (cond on i (first_on (suc i) (length us) (left / 2)))) none)
-        go true true q more = rw q
-        go true false q more = rw q
-        go false z q true = refl
-        go false z q false = refl
+        go : (on : Bool) (o : Optional Reason) (more : Bool)
+            → given_or (own_verdict i (cond on o None)) (given (cond more (own_verdict (first_on (suc i) (length us) (left / 2)) o) None))
+            ≡ given (cond (on || more) (own_verdict (cond on i (first_on (suc i) (length us) (left / 2))) o) None)
+        go true None true = refl
+        go true None false = refl
+        go true (Some x) more = refl
+        go false o true = refl
+        go false o false = refl
 
     picked : (us : List Unit) (left : ℕ) → (some_of (λ s. s.select) (seated us left) ≡ any_on (length us) left)
         × (two_of (λ s. s.select) (seated us left) ≡ several_on (length us) left)
@@ -134,17 +130,16 @@ module _ (c : Cycle) (in_range : out_of_range c ≡ false) where
     picked (u ∷ us) left = let t = picked us (left / 2) in (rw t.0, rw (t.0, t.1))
 
     pub command_known : (us : List Unit) (selects count : ℕ) → length us ≡ count → Every Healthy (seated us selects)
-        → (some_is several : Bool) (first number : ℕ) (stood : Bool)
-        → some_is ≡ any_on count selects → several ≡ several_on count selects → cond some_is first count ≡ first_on 0 count selects
-        → number ≡ cond some_is N 0 → stood ≡ some_of requests (seated us selects) → (asking c).memory ≡ false
-        → Known (record { number = number; refuser = first; drives = false; clash = false; command = some_is; several = several; stood = stood })
-        c (seated us selects)
-    command_known us selects count long h some_is several first number stood one two three num asks no_memory =
+        → (first : Optional ℕ) (several : Bool) (own : Optional Verdict) (stood : Bool)
+        → is_some first ≡ any_on count selects → several ≡ several_on count selects → unwrap_or first count ≡ first_on 0 count selects
+        → own ≡ first_verdict first why → stood ≡ some_of requests (seated us selects) → (asking c).memory ≡ false
+        → Known (record { own = own; drives = false; clash = false; command = is_some first; several = several; stood = stood }) c (seated us selects)
+    command_known us selects count long h first several own stood one two three held asks no_memory =
         let same = two_same (seat_commanded c) (λ s. s.select) (commanded c e) (seated us selects) in
         let t = picked us selects in
         record {
           own =
-              rw num (go some_is one three)
+              rw held (go first why one three)
               ∙ ap (λ (n : ℕ). firsts 0 n selects) (sym long)
               ∙ sym (own_first 0 us selects h);
           clash = clash_none no_memory (seated us selects);
@@ -153,7 +148,7 @@ module _ (c : Cycle) (in_range : out_of_range c ≡ false) where
           stood = asks;
         }
       where
-        go : (b : Bool) → b ≡ any_on count selects → cond b first count ≡ first_on 0 count selects
-            → cond (eqb (cond b N 0) 0) none (by (cond b N 0) first) ≡ firsts 0 count selects
-        go true o f = rw (← o, ← f)
-        go false o f = rw (← o) (none_either (eqb N 0))
+        go : (f : Optional ℕ) (o : Optional Reason) → is_some f ≡ any_on count selects → unwrap_or f count ≡ first_on 0 count selects
+            → given (first_verdict f o) ≡ given (cond (any_on count selects) (own_verdict (first_on 0 count selects) o) None)
+        go None o a b = rw (← a)
+        go (Some i) o a b = rw (← a, ← b)

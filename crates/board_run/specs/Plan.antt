@@ -1,5 +1,6 @@
 -- What is read off the registers before any unit is touched, and the flags that are set in the table of one unit.
-use Rattle.std.specs.Prelude.{◌≡◌, Bool, true, false, cond, ◌||◌, ◌≢◌, List, [], ◌∷◌, map, ℕ, zero, suc, ◌*◌, ◌/◌, ◌%◌, eqb, length, get_or, take, drop}
+use Rattle.std.specs.Prelude.{Option as Optional}
+use Rattle.std.specs.Prelude.{Some, None, ◌≡◌, Bool, true, false, cond, ◌||◌, ◌≢◌, List, [], ◌∷◌, map, ℕ, zero, suc, ◌*◌, ◌/◌, ◌%◌, eqb, length, get_or, take, drop}
 use Rattle.rules.specs.PowerOn.{power_on}
 use Rattle.rules.specs.Refusals.{damaged, out_of_range}
 use Rattle.rules.specs.Step.{with_flags}
@@ -7,10 +8,12 @@ use Rattle.rules.specs.declared.Cycle.{Cycle}
 use Rattle.rules.specs.declared.Descriptor.{Descriptor}
 use Rattle.rules.specs.declared.Registers.{Registers}
 use Rattle.rules.specs.declared.Unit.{Unit}
+use Rattle.rules.specs.declared.refusal.Refusal.{Refusal as Reason}
 use Rattle.theorems_runs.specs.Sequences.{Every}
 use Rattle.board_rules.specs.Board.{Seat, seated, some_of, two_of, requests}
 use Rattle.theorems_boards.specs.Numbers.{seat_drives}
-use Rattle.board_refusals.specs.Judged.{asking, concerns}
+use Rattle.board_refusals.specs.Judged.{asking, concerns, own_verdict}
+use Rattle.board_refusals.specs.declared.Verdict.{Verdict}
 use Rattle.board_refusals.specs.declared.Judged.{Judged}
 use Rattle.board_refusals.proofs.Laws.{Known}
 use Rattle.board_run.specs.declared.Drivers.{Drivers}
@@ -83,13 +86,17 @@ any_asks rs count = asks_from rs 0 count
 
 -- what is judged where no unit takes a command
 abbrev pub uncommanded : (clash : Bool) → Judged
-uncommanded clash = record { number = 0; refuser = 0; drives = false; clash = clash; command = false; several = false; stood = false }
+uncommanded clash = record { own = None; drives = false; clash = clash; command = false; several = false; stood = false }
+
+-- a command's refusal, by the first unit that is selected
+abbrev pub first_verdict : (first : Optional ℕ) → Optional Reason → Optional Verdict
+first_verdict None o = None
+first_verdict (Some i) o = own_verdict i o
 
 -- what was judged, with the requests that stand
 abbrev pub judged_with : Judged → (stood : Bool) → Judged
 judged_with j stood = record {
-  number = j.number;
-  refuser = j.refuser;
+  own = j.own;
   drives = j.drives;
   clash = j.clash;
   command = j.command;

@@ -2,20 +2,18 @@
 // from the registers before any unit is touched.
 #![tactic(auto)]
 
-ghost use Rattle.std.specs.Prelude.{◌≡◌, false, cond, ◌+◌, ◌*◌, ◌≤◌, length};
+ghost use Rattle.std.specs.Prelude.{◌≡◌, false, ◌+◌, ◌*◌, ◌≤◌, length, is_some, unwrap_or};
 ghost use mir.Val.{bool_byte};
 ghost use Rattle.rules.specs.Refusals.{damaged, out_of_range};
 ghost use Rattle.rules.specs.Step.{decided};
-ghost use Rattle.board_rules.specs.Board.{refusing};
-ghost use Rattle.board_refusals.specs.Judged.{refusal_in};
 ghost use Rattle.board_run.specs.BoardRun.{record_size, most, board_cycle_at, board_ran_to, refused_to, cycles_for};
-ghost use Rattle.board_run.specs.Plan.{RaisedIn, any_on, several_on, first_on, DrivingIs, PlanIs, any_asks, uncommanded, judged_with};
+ghost use Rattle.board_run.specs.Plan.{RaisedIn, any_on, several_on, first_on, DrivingIs, PlanIs, any_asks, uncommanded, first_verdict};
 ghost use Rattle.board_packed.specs.BoardPacked.{board_width};
 
-use board_refusals::Judged;
-use board_rules::{Board, BoardAnswer, BoardCycle, Named, seen_by};
+use board_refusals::{Judged, Verdict};
+use board_rules::{Board, BoardCycle, seen_by};
+use rules::refusal::Refusal;
 use rules::{Change, Cycle, Decision, Descriptor, Registers, Unit};
-use rules_flags::pick;
 use unit_dispatch::status;
 use unit_step::table::with_flags;
 use unit_stores::word;
@@ -44,12 +42,11 @@ struct Drivers {
     clash: bool,
 }
 
-// Whether a unit is selected, whether several are, and the first.
+// The first unit that is selected, if one is, and whether several are.
 #[derive(Clone, Copy)]
 struct Chosen {
-    some: bool,
+    first: Option<u8>,
     several: bool,
-    first: u8,
 }
 
 // What is to be done for a cycle: the units to look at, and what the board refuses, but for the requests that stand.
@@ -65,22 +62,14 @@ fn cycle_at(records: &[u8], at: usize) -> BoardCycle
     requires { at + record_size ≤ length records.now }
     ensures { result ≡ board_cycle_at records.now at }
 {
-    let c = trace_records::decode(&records[at..at + LOW_AT]);
-    let low = records[at + LOW_AT];
-    let selects = word(records[at + SELECTS_AT], records[at + SELECTS_AT + 1]);
-    let cycle = Cycle {
-        status: c.status,
-        read: c.read,
-        normal: c.normal,
-        dma: c.dma,
-        select: c.select,
-        segment: c.segment,
-        offset: c.offset,
-        low,
-        byte: c.byte,
-        reset: c.reset,
-    };
-    BoardCycle { cycle, selects }
+    let cycle = trace_records::decode(&records[at..at + LOW_AT]);
+    BoardCycle {
+        cycle: Cycle {
+            low: records[at + LOW_AT],
+            ..cycle
+        },
+        selects: word(records[at + SELECTS_AT], records[at + SELECTS_AT + 1]),
+    }
 }
 
 // Flags set in every descriptor of unit i.
@@ -101,7 +90,7 @@ fn raised(tables: [Descriptor; ALL], i: usize, mask: u8) -> [Descriptor; ALL]
 fn bit(on: bool) -> u32
     ensures { (result ≡ bool_byte on) × (result ≤ 1) }
 {
-    on as u32
+    u32::from(on)
 }
 
 // The units that a memory cycle may concern, from the last to the first, so that the first has the lowest bit.
@@ -112,9 +101,7 @@ fn driving(registers: [Registers; Board::UNITS], count: usize, c: Cycle) -> Driv
     let mut mask: u32 = 0;
     let mut drives = false;
     let mut clash = false;
-    let mut k = count;
-    while 0 < k {
-        k = k - 1;
+    for k in (0..count).rev() {
         let r = registers[k];
         let drive = board_refusals::may_drive(r.control.mr, c);
         let on = drive | (r.notes.awaits | (r.notes.own | r.notes.hold));
@@ -132,25 +119,19 @@ fn driving(registers: [Registers; Board::UNITS], count: usize, c: Cycle) -> Driv
 // The selects of the first `count` units.
 fn selected(selects: u16, count: usize) -> Chosen
     requires { count ≤ 16 }
-    ensures { (result.some ≡ any_on count selects) × (result.several ≡ several_on count selects)
-        × (cond result.some result.first count ≡ first_on 0 count selects) }
+    ensures { (is_some result.first ≡ any_on count selects) × (result.several ≡ several_on count selects)
+        × (unwrap_or result.first count ≡ first_on 0 count selects) }
 {
-    let mut some = false;
+    let mut first = None;
     let mut several = false;
-    let mut first: u8 = 0;
     let mut left = selects;
     for i in 0..count {
         let on = left % 2 == 1;
-        several = several | (some & on);
-        first = pick(some, first, i as u8);
-        some = some | on;
+        several = several | (first.is_some() & on);
+        first = first.or(on.then_some(i as u8));
         left = left / 2;
     }
-    Chosen {
-        some,
-        several,
-        first,
-    }
+    Chosen { first, several }
 }
 
 // A request stands in a unit.
@@ -160,11 +141,8 @@ fn asks(registers: [Registers; Board::UNITS], count: usize) -> bool
     ensures { result ≡ any_asks registers count }
 {
     let mut trap = false;
-    let mut k = count;
-    while 0 < k {
-        k = k - 1;
-        let r = registers[k];
-        trap = r.notes.request | trap;
+    for r in &registers[..count] {
+        trap = trap | r.notes.request;
     }
     trap
 }
@@ -174,42 +152,49 @@ fn uncommanded(clash: bool) -> Judged
     ensures { result ≡ uncommanded clash }
 {
     Judged {
-        number: 0,
-        refuser: 0,
-        drives: false,
         clash,
-        command: false,
-        several: false,
-        stood: false,
+        ..board_refusals::unjudged()
+    }
+}
+
+// A command's refusal, if it has one, by the first unit that is selected.
+fn first_verdict(first: Option<u8>, refusal: Option<Refusal>) -> Option<Verdict>
+    ensures { result ≡ first_verdict first refusal }
+{
+    match (first, refusal) {
+        (Some(_), Some(refusal)) => Some(Verdict {
+            refusal,
+            named: first,
+        }),
+        _ => None,
     }
 }
 
 // What is to be done for a cycle that is in range, by units that are undamaged.
-fn plan(registers: [Registers; Board::UNITS], count: usize, c: Cycle, selects: u16) -> Prepared
+fn plan(registers: [Registers; Board::UNITS], count: usize, b: BoardCycle) -> Prepared
     requires { count ≤ 16 }
-    ensures { PlanIs registers count c selects result.mask result.judged }
+    ensures { PlanIs registers count b.cycle b.selects result.mask result.judged }
 {
+    let c = b.cycle;
     let memory = !c.reset & ((8 <= c.status) & (c.status <= 13));
     if memory {
         let d = driving(registers, count, c);
-        let judged = uncommanded(d.clash);
         return Prepared {
             mask: d.mask,
-            judged,
+            judged: uncommanded(d.clash),
         };
     }
     let command = !c.reset & (c.status == Unit::COMMAND) & !c.dma;
     if command {
-        let s = selected(selects, count);
+        let s = selected(b.selects, count);
         let q = board_refusals::ask(c);
         return Prepared {
-            mask: selects as u32,
+            mask: u32::from(b.selects),
             judged: Judged {
-                number: pick(s.some, q.number, 0),
-                refuser: s.first,
+                own: first_verdict(s.first, q.refusal),
                 drives: false,
                 clash: false,
-                command: s.some,
+                command: s.first.is_some(),
                 several: s.several,
                 stood: false,
             },
@@ -224,21 +209,6 @@ fn plan(registers: [Registers; Board::UNITS], count: usize, c: Cycle, selects: u
         };
     }
     Prepared { mask: 0, judged }
-}
-
-// The answer of a board that refuses; `stood`: a request stands in a unit.
-fn refusal(j: Judged, stood: bool) -> BoardAnswer
-    ensures { result ≡ refusing (refusal_in (judged_with j stood)) stood }
-{
-    board_refusals::refusal(Judged {
-        number: j.number,
-        refuser: j.refuser,
-        drives: j.drives,
-        clash: j.clash,
-        command: j.command,
-        several: j.several,
-        stood,
-    })
 }
 
 // What is decided of an undamaged unit in a cycle that is in range: refusals 2 and 1 need no test.
@@ -272,11 +242,10 @@ fn run_to(records: &[u8], count: usize, cycles: usize, out: &mut [u8])
     for n in 0..cycles {
         let b = cycle_at(records, RECORD * n);
         let c = b.cycle;
-        let p = plan(registers, count, c, b.selects);
+        let p = plan(registers, count, b);
         let j = p.judged;
-        let refuses = board_refusals::refuses(j, c.read);
-        if refuses {
-            let a = refusal(j, asks(registers, count));
+        if let Some(v) = board_refusals::refuses(j, c.read) {
+            let a = board_refusals::refused(v.refusal.into(), v.named, asks(registers, count));
             board_packed::put(out, board_packed::BYTES * n, a);
         } else {
             let mut joint = board_answers::nothing();
@@ -325,7 +294,7 @@ fn refuse_to(cycles: usize, out: &mut [u8])
     ensures { out.new ≡ refused_to cycles out.old }
 {
     for n in 0..cycles {
-        let a = board_refusals::refused(Board::WRONG_COUNT, Named::Nobody, false);
+        let a = board_refusals::refused(Refusal::WrongCount.into(), None, false);
         board_packed::put(out, board_packed::BYTES * n, a);
     }
 }

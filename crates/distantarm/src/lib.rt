@@ -6,25 +6,25 @@
 ghost use Rattle.text.specs.Listed.{Listed};
 ghost use Rattle.distantarm.specs.Interface.{PoweredOn, Called, given, BoardCalled, board_given, RecordingStarted, CycleRecorded};
 
+use rules::refusal::Refusal;
 use rules::{Cycle, Unit};
-use unit_stores::NO_ROOM;
+use unit_bytes::cycle::cycled;
+use unit_bytes::snapshot;
 
-// The unit at power-on: 0, and its bytes at the start of the buffer. A buffer that is too short gives NO_ROOM and is left as it was.
+// The unit at power-on: 0, and its bytes at the start of the buffer. A buffer that is too short gives 255 and is left as it was.
 #[tactic(auto, using(crate::proofs::Ends::powered))]
 pub fn distantarm_power_on(unit: &mut [u8]) -> u8
     ensures { PoweredOn unit.old unit.new result }
 {
-    let narrow = unit.len() < unit_bytes::snapshot::BYTES;
-    if narrow {
-        return NO_ROOM;
+    if unit.len() < snapshot::BYTES {
+        return Refusal::NoRoom.into();
     }
-    let u = Unit::power_on();
-    unit_bytes::snapshot::put_unit(unit, u);
+    snapshot::put_unit(unit, Unit::power_on());
     0
 }
 
 // One cycle: the packed answer in the one buffer, the unit after the cycle in the other, and 0 or the number of the refusal. Where a
-// buffer is too short it gives NO_ROOM, and both are left as they were.
+// buffer is too short it gives 255, and both are left as they were.
 #[tactic(auto, using(crate::proofs::Ends::roomy))]
 pub fn distantarm_cycle(
     unit: &mut [u8],
@@ -43,9 +43,8 @@ pub fn distantarm_cycle(
     ensures { Called (given status read normal dma select segment offset low byte reset)
         unit.old answer.old unit.new answer.new result }
 {
-    let narrow = (unit.len() < unit_bytes::snapshot::BYTES) | (answer.len() < unit_packed::BYTES);
-    if narrow {
-        return NO_ROOM;
+    if unit.len() < snapshot::BYTES || answer.len() < unit_packed::BYTES {
+        return Refusal::NoRoom.into();
     }
     let c = Cycle {
         status,
@@ -59,12 +58,12 @@ pub fn distantarm_cycle(
         byte,
         reset,
     };
-    unit_bytes::cycle::cycled(unit, answer, c)
+    cycled(unit, answer, c)
 }
 
 // One cycle of a board of `count` units, for all of them, with a select bit for each, unit 0 in bit 0: the packed answer of the board in the one
 // buffer, the units after the cycle in the other, and 0 or the number of the refusal. A count that is not 1 to 16 gives 11, whatever the
-// units' buffer holds. Where a buffer is too short it gives NO_ROOM, and both are left as they were.
+// units' buffer holds. Where a buffer is too short it gives 255, and both are left as they were.
 pub fn distantarm_board_cycle(
     units: &mut [u8],
     answer: &mut [u8],

@@ -10,6 +10,7 @@ use native.Mathlib.Omega.{arith}
 use lib.Dec.{eqb, leb}
 use lib.ListN.{length, length-take}
 use borrow.Author.Tests.{eqb-true, leb-true, ne_eqb}
+use Rattle.std.specs.Prelude.{Some}
 use Rattle.rules.specs.Bus.{cpu}
 use Rattle.rules.specs.Refusals.{out_of_range}
 use Rattle.rules.specs.Step.{stepped}
@@ -31,7 +32,6 @@ use Rattle.board_rules.specs.Board.{on_lines, silent, driver, kind_by, nobody_dr
 use Rattle.board_rules.specs.declared.Board.{Board}
 use Rattle.board_rules.specs.declared.BoardAnswer.{BoardAnswer}
 use Rattle.board_rules.specs.declared.BoardCycle.{BoardCycle}
-use Rattle.board_rules.specs.declared.Named.TheVariants.{Number}
 use Rattle.theorems_boards.specs.Seats.{live, alone_at, refusal_of}
 use Rattle.theorems_boards.specs.Numbers.{asks, seat_commanded, expected}
 use Rattle.theorems_boards.specs.Said.{ready, Shows, DriverAddress, first, driver_of, kind_in, memory_kind, board_kind_by}
@@ -271,7 +271,7 @@ never_commanded c m ss = some_never (seat_commanded c) ss (λ s. no_command (see
 kind_last : (r a k : Bool) (x : Kind) → r ≡ false → a ≡ false → k ≡ false → kind_by r a k x ≡ x
 kind_last r a k x er ea ek = rw (er, ea, ek)
 
-module _ (b : Board) (c : BoardCycle) (e : refusal_of b c ≡ none) (i : ℕ) (n : (board_answer b c).named ≡ Number i) where
+module _ (b : Board) (c : BoardCycle) (e : refusal_of b c ≡ none) (i : ℕ) (n : (board_answer b c).named ≡ Some i) where
   within : i < length (live b)
   within = (((driver-named b c e).unit i).0 n).0
 

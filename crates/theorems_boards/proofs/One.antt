@@ -7,6 +7,7 @@ use mathlib.Core.Option.{Option, none, some}
 use Prim.Native.Nat.{ℕ, ◌%◌}
 use native.Mathlib.Omega.{arith}
 use lib.Dec.{eqb}
+use Rattle.std.specs.Prelude.{Some}
 use Rattle.rules.specs.Kinds.{number_in}
 use Rattle.rules.specs.Runs.{answers, final}
 use Rattle.rules.specs.Step.{stepped}
@@ -20,7 +21,6 @@ use Rattle.theorems_runs.proofs.Refusal.{refusal-leaves}
 use Rattle.board_rules.specs.Board.{Seat, seated, seen_by, some_of, two_of, answer_of, afterwards, own_from, verdict}
 use Rattle.board_rules.specs.Board.{on_lines, is_kind, driver_from, joined, seats_answer, seats_after, board_answer, board_after, board_answers, board_final}
 use Rattle.board_rules.specs.declared.BoardCycle.{BoardCycle}
-use Rattle.board_rules.specs.declared.Named.TheVariants.{Number}
 use Rattle.theorems_boards.specs.Seats.{cycle_at}
 use Rattle.theorems_boards.specs.Alone.{board_of_one, as_boards, OneIsTheUnit}
 use Rattle.theorems_boards.proofs.Forms.{accepted_form}
@@ -54,7 +54,7 @@ module _ (c : Cycle) (s : Seat) where
   unfolding verdict own_from
   verdict-accepted e = rw (e, alone_not_two on_lines (answer_of c s), alone_not_two (is_kind Command) (answer_of c s), and-false c.read)
 
-  verdict-refused : (n : ℕ) → number_in (answer_of c s).kind ≡ some n → verdict c (s ∷ []) ≡ some (record { number = n; named = Number 0 })
+  verdict-refused : (n : ℕ) → number_in (answer_of c s).kind ≡ some n → verdict c (s ∷ []) ≡ some (record { number = n; named = Some 0 })
   unfolding verdict own_from
   verdict-refused n e = rw e
 
@@ -70,7 +70,7 @@ module _ (c : Cycle) (s : Seat) where
       let k : (answer_of c s).kind ≡ Refused n = refused_kind _ n e in
       let h : AsItStood s.unit (stepped s.unit (seen_by s.select c)) = refusal-leaves s.unit (seen_by s.select c) n k in (
         rw (verdict-refused n e, e, or-true (on_lines (answer_of c s)))
-            (ap (λ (x : Answer). record { answer = x; named = Number 0 })
+            (ap (λ (x : Answer). record { answer = x; named = Some 0 })
             (same_answer _ (answer_of c s) (sym k) (sym h.address) (sym h.sup) (or-false _ ∙ sym h.trap) (sym h.drives) (sym h.byte)
             (sym h.distance))),
         rw (verdict-refused n e, h.unit),

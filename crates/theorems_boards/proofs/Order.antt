@@ -11,6 +11,7 @@ use lib.Bits.{bit_or, or_comm}
 use lib.Dec.{eqb, ltb}
 use lib.ListN.{length}
 use borrow.Author.Tests.{le-ltb}
+use Rattle.std.specs.Prelude.{Some, None}
 use Rattle.rules.specs.Bus.{write}
 use Rattle.rules.specs.Kinds.{number_of}
 use Rattle.rules.specs.PowerOn.{blank, power_on}
@@ -34,7 +35,6 @@ use Rattle.board_rules.specs.Board.{board_answer_by, board_answers, board_final}
 use Rattle.board_rules.specs.declared.Board.{Board}
 use Rattle.board_rules.specs.declared.BoardAnswer.{BoardAnswer}
 use Rattle.board_rules.specs.declared.BoardCycle.{BoardCycle}
-use Rattle.board_rules.specs.declared.Named.TheVariants.{Nobody, Number}
 use Rattle.theorems_boards.specs.Numbers.{seat_number, seat_drives, seat_commanded, lowest_from, two_drive, two_read, in_order}
 use Rattle.theorems_boards.specs.Order.{exchange, permuted, bits, Alike, is_nobody, OrderNeverMatters, broken, pair_of, unlisted_code}
 use Rattle.theorems_boards.specs.Order.{OrderMattersDamaged, OrderNeedsUndamaged}
@@ -157,7 +157,7 @@ nobody_driver j [] = refl
 nobody_driver j (x ∷ l) = go (on_lines x) (nobody_driver (suc j) l)
   where
     go : (t : Bool) → is_nobody (driver_from (suc j) l) ≡ not (some_of on_lines l)
-        → is_nobody (cond t (Number j) (driver_from (suc j) l)) ≡ not (t || some_of on_lines l)
+        → is_nobody (cond t (Some j) (driver_from (suc j) l)) ≡ not (t || some_of on_lines l)
     go true later = refl
     go false later = later
 
@@ -245,17 +245,17 @@ lowest_names c i (s ∷ ss) r e = go (seat_number c s) e (lowest_names c (suc i)
     go : (o : Option ℕ) → lowest_from i (o ∷ map (seat_number c) ss) ≡ some r
         → (lowest_from (suc i) (map (seat_number c) ss) ≡ some r → is_nobody r.named ≡ false) → is_nobody r.named ≡ false
     go none e later = later e
-    go (some n) e later = let k : Number i ≡ r.named = cc in rw (← k)
+    go (some n) e later = let k : Some i ≡ r.named = cc in rw (← k)
 
 names_by : (o : Option Refusal) (x y : Bool) → ((r : Refusal) → o ≡ some r → is_nobody r.named ≡ false)
     → ((r : Refusal) → o ≡ some r → r.number ≤ 4) → (r : Refusal) → in_order false o x y ≡ some r → is_nobody r.named ≡ ltb 4 r.number
 names_by (some q) x y names few r e = names r e ∙ sym (le-ltb 4 r.number (few r e))
 names_by none true y names few r e =
-    let k : Nobody ≡ r.named = cc in
+    let k : None ≡ r.named = cc in
     let n : 12 ≡ r.number = cc in
     rw (← k, ← n)
 names_by none false true names few r e =
-    let k : Nobody ≡ r.named = cc in
+    let k : None ≡ r.named = cc in
     let n : 13 ≡ r.number = cc in
     rw (← k, ← n)
 names_by none false false names few r e = let z : ◌≡◌ {A = ℕ} 0 1 = cc in absurd (omega arith)

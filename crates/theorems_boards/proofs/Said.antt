@@ -8,6 +8,7 @@ use Prim.Native.Nat.{ℕ, zero, suc, ◌+◌, ◌^◌, ◌<◌, ◌≤◌}
 use native.Mathlib.Nat.{not-suc-le-zero, le_of_suc-le-suc}
 use native.Mathlib.Omega.{arith}
 use lib.ListN.{length, get_or, length-map}
+use Rattle.std.specs.Prelude.{Some, None}
 use Rattle.rules.specs.Flags.{has}
 use Rattle.rules.specs.PowerOn.{power_on}
 use Rattle.rules.specs.declared.Answer.{Answer}
@@ -20,7 +21,6 @@ use Rattle.board_rules.specs.Board.{own_from, clash, several_read, driver, drive
 use Rattle.board_rules.specs.declared.Board.{Board}
 use Rattle.board_rules.specs.declared.BoardAnswer.{BoardAnswer}
 use Rattle.board_rules.specs.declared.BoardCycle.{BoardCycle}
-use Rattle.board_rules.specs.declared.Named.TheVariants.{Nobody, Number}
 use Rattle.theorems_boards.specs.Seats.{live, unit_at, alone_at, refusal_of}
 use Rattle.theorems_boards.specs.Said.{ready, NamesDriver, DriverNamed, AnyOf, LinesJoined}
 use Rattle.theorems_boards.proofs.Forms.{Accepted, accepted_form}
@@ -32,66 +32,66 @@ use Rattle.theorems_boards.proofs.Units.{unrefused}
 -- Answers one after another: j is the number of the first
 
 -- a unit that is named comes at or after the first
-above : (xs : List Answer) (j m : ℕ) → driver_from j xs ≡ Number m → j ≤ m
+above : (xs : List Answer) (j m : ℕ) → driver_from j xs ≡ Some m → j ≤ m
 unfolding driver_from
 above [] j m e = let z : ◌≡◌ {A = ℕ} 0 1 = cc in absurd (omega arith)
 above (x ∷ xs) j m e = go (on_lines x) e (above xs (suc j) m)
   where
-    go : (t : Bool) → cond t (Number j) (driver_from (suc j) xs) ≡ Number m → (driver_from (suc j) xs ≡ Number m → suc j ≤ m) → j ≤ m
+    go : (t : Bool) → cond t (Some j) (driver_from (suc j) xs) ≡ Some m → (driver_from (suc j) xs ≡ Some m → suc j ≤ m) → j ≤ m
     go true e later = let q : j ≡ m = cc in omega arith
     go false e later = let q : suc j ≤ m = later e in omega arith
 
 -- the unit that is named is one of them, drives the address, and its answer is the driver's, whatever stands for no driver
 module _ (d : Answer) where
-  pub named_on : (z : Answer) (xs : List Answer) (j i m : ℕ) → i + j ≡ m → driver_from j xs ≡ Number m
+  pub named_on : (z : Answer) (xs : List Answer) (j i m : ℕ) → i + j ≡ m → driver_from j xs ≡ Some m
       → (i < length xs) × (on_lines (get_or xs i d) ≡ true) × (driver z xs ≡ get_or xs i d)
   unfolding driver_from driver
   named_on z [] j i m s e = let z : ◌≡◌ {A = ℕ} 0 1 = cc in absurd (omega arith)
   named_on z (x ∷ xs) j zero m s e = go (on_lines x) refl e
     where
-      go : (t : Bool) → on_lines x ≡ t → cond t (Number j) (driver_from (suc j) xs) ≡ Number m
+      go : (t : Bool) → on_lines x ≡ t → cond t (Some j) (driver_from (suc j) xs) ≡ Some m
           → (0 < suc (length xs)) × (on_lines x ≡ true) × (cond t x (driver z xs) ≡ x)
       go true q e = (omega arith, q, refl)
       go false q e = let l : suc j ≤ m = above xs (suc j) m e in absurd (omega arith)
   named_on z (x ∷ xs) j (suc i) m s e = go (on_lines x) e (named_on z xs (suc j) i m (omega arith))
     where
-      go : (t : Bool) → cond t (Number j) (driver_from (suc j) xs) ≡ Number m
-          → (driver_from (suc j) xs ≡ Number m → (i < length xs) × (on_lines (get_or xs i d) ≡ true) × (driver z xs ≡ get_or xs i d))
+      go : (t : Bool) → cond t (Some j) (driver_from (suc j) xs) ≡ Some m
+          → (driver_from (suc j) xs ≡ Some m → (i < length xs) × (on_lines (get_or xs i d) ≡ true) × (driver z xs ≡ get_or xs i d))
           → (suc i < suc (length xs)) × (on_lines (get_or xs i d) ≡ true) × (cond t x (driver z xs) ≡ get_or xs i d)
       go true e later = let q : j ≡ m = cc in absurd (omega arith)
       go false e later = let l = later e in let k : i < length xs = l.0 in (omega arith, l.1, l.2)
 
   -- a unit that drives the address is named, where no other does
   pub on_named : (xs : List Answer) (j i m : ℕ) → i + j ≡ m → i < length xs → two_of on_lines xs ≡ false → on_lines (get_or xs i d) ≡ true
-      → driver_from j xs ≡ Number m
+      → driver_from j xs ≡ Some m
   unfolding driver_from two_of
   on_named [] j i m s h n e = absurd (not-suc-le-zero h)
   on_named (x ∷ xs) j zero m s h n e = let q : j ≡ m = omega arith in rw (e, q)
   on_named (x ∷ xs) j (suc i) m s h n e = go (on_lines x) n (λ q. on_named xs (suc j) i m (omega arith) (le_of_suc-le-suc h) q e)
     where
       go : (t : Bool) → cond t (some_of on_lines xs) (two_of on_lines xs) ≡ false
-          → (two_of on_lines xs ≡ false → driver_from (suc j) xs ≡ Number m) → cond t (Number j) (driver_from (suc j) xs) ≡ Number m
+          → (two_of on_lines xs ≡ false → driver_from (suc j) xs ≡ Some m) → cond t (Some j) (driver_from (suc j) xs) ≡ Some m
       go true n later = absurd (true≢false (sym (some_at on_lines xs i d (le_of_suc-le-suc h) e) ∙ n))
       go false n later = later n
 
 -- nobody is named exactly where none drives, and then the driver's answer is what stands for no driver
-pub nobody_on : (xs : List Answer) (j : ℕ) → driver_from j xs ≡ Nobody → some_of on_lines xs ≡ false
+pub nobody_on : (xs : List Answer) (j : ℕ) → driver_from j xs ≡ None → some_of on_lines xs ≡ false
 unfolding driver_from some_of
 nobody_on [] j e = refl
 nobody_on (x ∷ xs) j e = go (on_lines x) e (nobody_on xs (suc j))
   where
-    go : (t : Bool) → cond t (Number j) (driver_from (suc j) xs) ≡ Nobody → (driver_from (suc j) xs ≡ Nobody → some_of on_lines xs ≡ false)
+    go : (t : Bool) → cond t (Some j) (driver_from (suc j) xs) ≡ None → (driver_from (suc j) xs ≡ None → some_of on_lines xs ≡ false)
         → (t || some_of on_lines xs) ≡ false
     go true e later = let z : ◌≡◌ {A = ℕ} 0 1 = cc in absurd (omega arith)
     go false e later = later e
 
-pub none_on : (z : Answer) (xs : List Answer) (j : ℕ) → some_of on_lines xs ≡ false → (driver_from j xs ≡ Nobody) × (driver z xs ≡ z)
+pub none_on : (z : Answer) (xs : List Answer) (j : ℕ) → some_of on_lines xs ≡ false → (driver_from j xs ≡ None) × (driver z xs ≡ z)
 unfolding driver_from driver some_of
 none_on z [] j e = (refl, refl)
 none_on z (x ∷ xs) j e = go (on_lines x) e (none_on z xs (suc j))
   where
-    go : (t : Bool) → (t || some_of on_lines xs) ≡ false → (some_of on_lines xs ≡ false → (driver_from (suc j) xs ≡ Nobody) × (driver z xs ≡ z))
-        → (cond t (Number j) (driver_from (suc j) xs) ≡ Nobody) × (cond t x (driver z xs) ≡ z)
+    go : (t : Bool) → (t || some_of on_lines xs) ≡ false → (some_of on_lines xs ≡ false → (driver_from (suc j) xs ≡ None) × (driver z xs ≡ z))
+        → (cond t (Some j) (driver_from (suc j) xs) ≡ None) × (cond t x (driver z xs) ≡ z)
     go true e later = absurd (true≢false e)
     go false e later = later e
 

@@ -9,6 +9,7 @@ use Prim.Native.Nat.{ℕ, zero, suc, ◌<◌}
 use native.Mathlib.Omega.{arith}
 use lib.Dec.{eqb, lit<}
 use lib.ListN.{length, get_or, drop, length-take}
+use Rattle.std.specs.Prelude.{Some, None}
 use Rattle.rules.specs.Flags.{has}
 use Rattle.rules.specs.Kinds.{letter_of}
 use Rattle.rules.specs.PowerOn.{stored_of, notes_of, quiet, power_on}
@@ -30,7 +31,6 @@ use Rattle.theorems_runs.proofs.Trap.{trap_shows}
 use Rattle.board_rules.specs.Board.{board_answer, board_after, board_stepped, board_answers, board_final}
 use Rattle.board_rules.specs.declared.Board.{Board}
 use Rattle.board_rules.specs.declared.BoardCycle.{BoardCycle}
-use Rattle.board_rules.specs.declared.Named.TheVariants.{Nobody, Number}
 use Rattle.theorems_boards.specs.Seats.{select_of, live, unit_at, alone_at, refusal_of}
 use Rattle.theorems_boards.specs.Numbers.{asks, BoardAsItStood}
 use Rattle.theorems_boards.specs.Alone.{board_on, PastStay, board_of_one}
@@ -119,11 +119,11 @@ unfolding conditions
 apart_unrefused = board_numbers_exactly apart fetching
 
 pub apart-driven :
-    ((board_answer apart fetching).named ≡ Number 1) × ((board_answer apart fetching).answer.address ≡ driven 0x1002)
+    ((board_answer apart fetching).named ≡ Some 1) × ((board_answer apart fetching).answer.address ≡ driven 0x1002)
     × ((board_answer apart fetching).answer.distance ≡ 0xFD) × ((board_answer apart fetching).answer.kind ≡ Translated)
 unfolding computed
 apart-driven =
-    let named : (board_answer apart fetching).named ≡ Number 1 = ((driver-named apart fetching apart_unrefused).unit 1).1 (lit< tt, refl) in (
+    let named : (board_answer apart fetching).named ≡ Some 1 = ((driver-named apart fetching apart_unrefused).unit 1).1 (lit< tt, refl) in (
       named,
       ((driver_address apart fetching apart_unrefused).driven 1 named).address,
       ((driver_address apart fetching apart_unrefused).driven 1 named).distance,
@@ -214,9 +214,9 @@ trap_computed = (board_trap_shows warning reading, board_trap_shows uncounted re
 abbrev stopped : Board
 stopped = two (unit 0xC0 request) damaged-unit
 
-pub stopped_named : (refusal_of stopped reading ≡ some 2) × ((board_answer stopped reading).named ≡ Number 1)
+pub stopped_named : (refusal_of stopped reading ≡ some 2) × ((board_answer stopped reading).named ≡ Some 1)
 unfolding conditions
-stopped_named = (board_numbers_exactly stopped reading, named_exactly stopped reading (record { number = 2; named = Number 1 }) refl)
+stopped_named = (board_numbers_exactly stopped reading, named_exactly stopped reading (record { number = 2; named = Some 1 }) refl)
 
 pub stopped-left :
     ((board_answer stopped reading).answer.address ≡ off) × ((board_answer stopped reading).answer.sup ≡ false)
@@ -292,7 +292,7 @@ abbrev four : List BoardCycle
 four = reading ∷ selecting 1 (command false 0x02 0) ∷ selecting 1 (command false 0x00 0) ∷ reading ∷ []
 
 pub one-named : (us : List Unit)
-    → map (λ x. x.named) (board_answers (board_of_one (unit 0xC0 quiet) us) four) ≡ Number 0 ∷ Number 0 ∷ Nobody ∷ Nobody ∷ []
+    → map (λ x. x.named) (board_answers (board_of_one (unit 0xC0 quiet) us) four) ≡ Some 0 ∷ Some 0 ∷ None ∷ None ∷ []
 unfolding computed
 one-named us = ap (map (λ x. x.named)) (one_is_the_unit (unit 0xC0 quiet) us four).0
 

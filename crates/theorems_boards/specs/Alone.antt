@@ -1,6 +1,6 @@
 -- Ticket 3, "Units that share nothing but the cycle": each unit of a board is the single unit, alone.
 -- Assumes nothing.
-use Rattle.std.specs.Prelude.{◌≡◌, cond, ◌||◌, List, [], ◌∷◌, map, ℕ, ◌<◌, length, drop, replicate}
+use Rattle.std.specs.Prelude.{◌≡◌, cond, ◌||◌, List, [], ◌∷◌, map, ℕ, ◌<◌, length, drop, replicate, Some, None}
 use Rattle.std.proofs.Math.Option.{none}
 use Rattle.rules.specs.Kinds.{number_in}
 use Rattle.rules.specs.PowerOn.{power_on}
@@ -16,7 +16,6 @@ use Rattle.board_rules.specs.Board.{on_lines, board_after, board_answers, board_
 use Rattle.board_rules.specs.declared.Board.{Board}
 use Rattle.board_rules.specs.declared.BoardAnswer.{BoardAnswer}
 use Rattle.board_rules.specs.declared.BoardCycle.{BoardCycle}
-use Rattle.board_rules.specs.declared.Named.TheVariants.{Nobody, Number}
 use Rattle.theorems_boards.specs.Seats.{live, unit_at, cycle_at, alone_at, refusal_of, given}
 
 -- Each unit is the single unit
@@ -103,7 +102,7 @@ board_of_one u us = record { units = u ∷ us; count = 1 }
 
 -- an answer of the single unit as that of a board of one: unit 0 is named exactly where it drives the address or refuses
 abbrev pub as_boards : Answer → BoardAnswer
-as_boards x = record { answer = x; named = cond (on_lines x || given (number_in x.kind)) (Number 0) Nobody }
+as_boards x = record { answer = x; named = cond (on_lines x || given (number_in x.kind)) (Some 0) None }
 
 -- CLAIM: a board of one unit is the unit: its answers and its registers, over every list of cycles, with bit 0 of the selects as the select.
 -- Nobody but unit 0 is ever named, and the units past the count stay.

@@ -1,6 +1,6 @@
 -- Demand 3 for boards: two boards whose units are pairs tightened as stated, over the same cycles; with ticket 5's line.
 -- Assumes nothing.
-use Rattle.std.specs.Prelude.{◌≡◌, Bool, true, false, not, cond, ◌&&◌, ◌||◌, List, [], ◌∷◌, ℕ, ◌≤◌, ◌<◌, replicate}
+use Rattle.std.specs.Prelude.{◌≡◌, Bool, true, false, not, cond, ◌&&◌, ◌||◌, List, [], ◌∷◌, ℕ, ◌≤◌, ◌<◌, replicate, Some}
 use Rattle.rules.specs.Kinds.{number_in}
 use Rattle.rules.specs.PowerOn.{stored_of, notes_of, unit_of, blank, quiet}
 use Rattle.rules.specs.Seen.{cycle_with}
@@ -16,7 +16,6 @@ use Rattle.board_rules.specs.Board.{seats_of, seen_by, some_of, board_answer, bo
 use Rattle.board_rules.specs.declared.Board.{Board}
 use Rattle.board_rules.specs.declared.BoardAnswer.{BoardAnswer}
 use Rattle.board_rules.specs.declared.BoardCycle.{BoardCycle}
-use Rattle.board_rules.specs.declared.Named.TheVariants.{Number}
 use Rattle.theorems_boards.specs.Seats.{live, unit_at, cycle_at, refusal_of, given}
 use Rattle.theorems_boards.specs.Settings.{mr_of}
 
@@ -136,7 +135,7 @@ fetch_above = record { cycle = cycle_with 13 true false false false 64 0 0 0 fal
 abbrev pub FewerStop : Type 0
 FewerStop =
     (on_first shared shared fetch_above ≡ true) × (on_translating shared shared fetch_above ≡ false)
-    × ((board_answer shared fetch_above).answer.kind ≡ Translated) × ((board_answer shared fetch_above).named ≡ Number 1)
+    × ((board_answer shared fetch_above).answer.kind ≡ Translated) × ((board_answer shared fetch_above).named ≡ Some 1)
 
 -- CLAIM: all lines but that on SUP need no stop, and no note either: the address, the number, the unit that is named; and the distance.
 abbrev pub BoardUnstopped : Type 0

@@ -1,6 +1,6 @@
 -- Ticket 3, "Refusals": which number a board gives, by conditions on its registers and the cycle alone, and what a refusal leaves.
 -- Assumes nothing.
-use Rattle.std.specs.Prelude.{◌≡◌, ◌↔◌, Bool, true, false, not, ◌&&◌, ◌||◌, List, [], ◌∷◌, map, ℕ, suc, ◌≤◌}
+use Rattle.std.specs.Prelude.{◌≡◌, ◌↔◌, Bool, true, false, not, ◌&&◌, ◌||◌, List, [], ◌∷◌, map, ℕ, suc, ◌≤◌, Some}
 use Rattle.std.specs.Bool.{beq}
 use Rattle.std.proofs.Math.Option
 use Rattle.std.proofs.Math.Option.{Option, none, some}
@@ -17,7 +17,6 @@ use Rattle.board_rules.specs.Board.{Seat, seats_of, seen_by, some_of, two_of, Re
 use Rattle.board_rules.specs.declared.Board.{Board}
 use Rattle.board_rules.specs.declared.BoardCycle.{BoardCycle}
 use Rattle.board_rules.specs.declared.BoardStepped.{BoardStepped}
-use Rattle.board_rules.specs.declared.Named.TheVariants.{Number}
 use Rattle.theorems_boards.specs.Seats.{live, refusal_of}
 
 -- What a refusal leaves
@@ -58,7 +57,7 @@ seat_number c s = own_number s.unit.registers (seen_by s.select c)
 -- the lowest unit's, with the unit's number
 unfoldable pub lowest_from : (i : ℕ) → List (Option ℕ) → Option Refusal
 lowest_from i [] = none
-lowest_from i (some n ∷ os) = some (record { number = n; named = Number i })
+lowest_from i (some n ∷ os) = some (record { number = n; named = Some i })
 lowest_from i (none ∷ os) = lowest_from (suc i) os
 
 -- "12, two units would drive the address": a memory cycle, and two units that each may drive

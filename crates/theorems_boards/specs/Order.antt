@@ -1,17 +1,15 @@
 -- Ticket 3: the order of undamaged units does not matter but for the number of the unit that is named.
 -- Assumes nothing.
-use Rattle.std.specs.Prelude.{◌≡◌, Bool, true, false, List, [], ◌∷◌, map, ℕ, zero, suc, ◌/◌, ◌%◌, eqb, length, replicate}
+use Rattle.std.specs.Prelude.{◌≡◌, Bool, true, false, List, [], ◌∷◌, map, ℕ, zero, suc, ◌/◌, ◌%◌, eqb, length, replicate, Some, None}
 use Rattle.std.proofs.Math.Option.{some}
 use Rattle.rules.specs.PowerOn.{stored_of, unit_of, blank, quiet, power_on}
 use Rattle.rules.specs.declared.Unit.{Unit}
 use Rattle.theorems_runs.specs.Cycles.{written}
 use Rattle.theorems_runs.specs.Sequences.{Every, Both}
 use Rattle.theorems_runs.specs.Undamaged.{Undamaged}
-use Rattle.board_rules.specs.Board.{board_answers, board_final}
+use Rattle.board_rules.specs.Board.{board_answers, board_final, Named}
 use Rattle.board_rules.specs.declared.Board.{Board}
 use Rattle.board_rules.specs.declared.BoardCycle.{BoardCycle}
-use Rattle.board_rules.specs.declared.Named.{Named}
-use Rattle.board_rules.specs.declared.Named.TheVariants.{Nobody, Number}
 use Rattle.theorems_boards.specs.Seats.{live, refusal_of}
 
 -- the elements at i and i + 1 exchanged
@@ -37,8 +35,8 @@ pub record Alike (n : ℕ) (p : List ℕ) (c d : BoardCycle) : Type 0 where
   pub selects : bits n d.selects ≡ permuted p (bits n c.selects)
 
 abbrev pub is_nobody : Named → Bool
-is_nobody Nobody = true
-is_nobody (Number i) = false
+is_nobody None = true
+is_nobody (Some i) = false
 
 -- two boards with units and select bits permuted alike give the same answers but for the number of the unit that is named, name nobody at the same
 -- cycles, and stay permuted alike, whatever cycles come; with what is said of the units left open. Units past the count, and whether the count

@@ -1,6 +1,6 @@
 -- Ticket 3, what a board answers: who is named, whose address it is, what is joined; and its kind, SUP and the trap line as one equation each.
 -- Assumes nothing.
-use Rattle.std.specs.Prelude.{◌≡◌, ◌↔◌, Bool, true, false, not, cond, ◌&&◌, ◌||◌, List, [], ◌∷◌, ℕ, ◌<◌, ◌^◌, length}
+use Rattle.std.specs.Prelude.{◌≡◌, ◌↔◌, Bool, true, false, not, cond, ◌&&◌, ◌||◌, List, [], ◌∷◌, ℕ, ◌<◌, ◌^◌, length, Some, None}
 use Rattle.std.proofs.Math.Option.{Option, none, some}
 use Rattle.rules.specs.Flags.{has}
 use Rattle.rules.specs.Replies.{off}
@@ -14,7 +14,6 @@ use Rattle.theorems_runs.specs.Cycles.{memory_cycle, acknowledge, translation_co
 use Rattle.board_rules.specs.Board.{seats_of, some_of, Refusal, wrong_count, board_answer, board_after}
 use Rattle.board_rules.specs.declared.Board.{Board}
 use Rattle.board_rules.specs.declared.BoardCycle.{BoardCycle}
-use Rattle.board_rules.specs.declared.Named.TheVariants.{Nobody, Number}
 use Rattle.theorems_boards.specs.Seats.{live, unit_at, alone_at, refusal_of}
 use Rattle.theorems_boards.specs.Numbers.{asks, may_drive, seat_commanded, expected}
 
@@ -27,9 +26,9 @@ ready c u = may_drive u.registers.control.mr c
 pub record NamesDriver (b : Board) (c : BoardCycle) : Type 0 where
   -- unit i exactly if it is within the count, the cycle is a memory cycle and the unit may drive
   pub unit : (i : ℕ)
-      → ((board_answer b c).named ≡ Number i) ↔ ((i < length (live b)) × ((memory_cycle c.cycle && ready c.cycle (unit_at i b)) ≡ true))
+      → ((board_answer b c).named ≡ Some i) ↔ ((i < length (live b)) × ((memory_cycle c.cycle && ready c.cycle (unit_at i b)) ≡ true))
   -- nobody exactly if it is no memory cycle or no unit within the count may drive
-  pub nobody : ((board_answer b c).named ≡ Nobody) ↔ ((memory_cycle c.cycle && some_of (ready c.cycle) (live b)) ≡ false)
+  pub nobody : ((board_answer b c).named ≡ None) ↔ ((memory_cycle c.cycle && some_of (ready c.cycle) (live b)) ≡ false)
 
 -- CLAIM: where the board does not refuse, the answer names the unit that drives the address, and nobody where none drives.
 abbrev pub DriverNamed : Type 0
@@ -44,8 +43,8 @@ pub record Shows (x y : Answer) : Type 0 where
   pub distance : y.distance ≡ x.distance
 
 pub record ShowsDriver (b : Board) (c : BoardCycle) : Type 0 where
-  pub driven : (i : ℕ) → (board_answer b c).named ≡ Number i → Shows (alone_at i b c).answer (board_answer b c).answer
-  pub undriven : (board_answer b c).named ≡ Nobody → ((board_answer b c).answer.address ≡ off) × ((board_answer b c).answer.distance ≡ 0)
+  pub driven : (i : ℕ) → (board_answer b c).named ≡ Some i → Shows (alone_at i b c).answer (board_answer b c).answer
+  pub undriven : (board_answer b c).named ≡ None → ((board_answer b c).answer.address ≡ off) × ((board_answer b c).answer.distance ≡ 0)
 
 -- CLAIM: where the board does not refuse, address, distance and kind are those that the driving unit would give alone; where nobody drives,
 -- no address and no distance.

@@ -54,7 +54,10 @@ use Rattle.trace_records.proofs.part.Kinds as part-k
 use Rattle.trace_records.proofs.part.Reads as part
 use Rattle.trace_reader.proofs.shown_at.Kinds as shown-at-k
 use Rattle.trace_reader.proofs.shown_at.Reads as shown-at
-use Rattle.trace_writer.specs.declared.Recorded.{Recorded}
+use Rattle.std.specs.Prelude.{Option, Result, unwrap_or}
+use Rattle.rules.specs.Numbers.{number_of_outcome}
+use Rattle.rules.specs.declared.refusal.Refusal.{Refusal}
+use Rattle.trace_writer.specs.Writing.{recorded_by}
 use Rattle.trace_writer.proofs.record_start.Kinds as record-start-k
 use Rattle.trace_writer.proofs.record_start.Reads as record-start
 use Rattle.trace_writer.proofs.record_cycle.Kinds as record-cycle-k
@@ -98,25 +101,27 @@ pub shown_at_agrees : (κs : Lfts 1) (a : Dens κs part-k.ps) (x y : (res_t part
 shown_at_agrees κs a x y e f p q = (cc, cc)
 
 -- a record's cycle, or the number that refuses it
-pub read_at_agrees : (κs : Lfts 1) (a : Dens κs part-k.ps) (number : ℕ) (p : Bor (List ℕ)) (c : Cycle) (x : (res_t read-at-k.r κs).Denot)
+pub read_at_agrees : (κs : Lfts 1) (a : Dens κs part-k.ps) (judged : Result (Unit {0}) Refusal) (p : Bor (List ℕ)) (c : Cycle)
+    (x : (res_t read-at-k.r κs).Denot)
     (e : AtExit (ended_of 1 record-refusal-k.ps record-refusal-k.r) κs) (f : AtExit (ended_of 1 part-k.ps part-k.r) κs)
     (g : AtExit (ended_of 1 decode-k.ps decode-k.r) κs) (h : AtExit (ended_of 1 read-at-k.ps read-at-k.r) κs)
-    → record-refusal.Learnt κs a number e → part.Learnt κs a p f → decode.Learnt κs (p, tt) c g → read_at.Learnt κs a x h
-    → (step_number x.step ≡ number) × (step_values x.step ≡ given_by (eqb number 0) c)
-    × (x.next ≡ cond (eqb number 0) (a.1.0 + 1) a.1.0)
+    → record-refusal.Learnt κs a judged e → part.Learnt κs a p f → decode.Learnt κs (p, tt) c g → read_at.Learnt κs a x h
+    → (step_number x.step ≡ number_of_outcome judged) × (step_values x.step ≡ given_by (eqb (number_of_outcome judged) 0) c)
+    × (x.next ≡ cond (eqb (number_of_outcome judged) 0) (a.1.0 + 1) a.1.0)
 unfolding given_at after_of
-read_at_agrees κs a number p c x e f g h refuses shows decodes reads =
+read_at_agrees κs a judged p c x e f g h refuses shows decodes reads =
     let same : c ≡ cycle_of (part_of a.0.now a.1.0) = decodes ∙ ap cycle_of shows.0 in (
       reads.0.0 ∙ sym refuses,
       reads.0.1
           ∙ ap (λ (k : ℕ). given_by (eqb k 0) (cycle_of (part_of a.0.now a.1.0))) (sym refuses)
-          ∙ ap (given_by (eqb number 0)) (sym same),
+          ∙ ap (given_by (eqb (number_of_outcome judged) 0)) (sym same),
       reads.1 ∙ ap (λ (k : ℕ). cond (eqb k 0) (a.1.0 + 1) a.1.0) (sym refuses),
     )
 
-pub distantarm_list_agrees : (κs : Lfts 2) (a : Dens κs list-k.ps) (x y : ℕ)
+-- a text's length, and 0 where there is none
+pub distantarm_list_agrees : (κs : Lfts 2) (a : Dens κs list-k.ps) (x : Option ℕ) (y : ℕ)
     (e : AtExit (ended_of 2 list-k.ps list-k.r) κs) (f : AtExit (ended_of 2 distantarm-list-k.ps distantarm-list-k.r) κs)
-    → list.Learnt κs a x e → distantarm-list.Learnt κs a y f → (x ≡ y) × (e.1.0.now ≡ f.1.0.now)
+    → list.Learnt κs a x e → distantarm-list.Learnt κs a y f → (unwrap_or x 0 ≡ y) × (e.1.0.now ≡ f.1.0.now)
 distantarm_list_agrees κs a x y e f p q = (cc, cc)
 
 -- a unit's bytes at power-on, where there is room
@@ -175,17 +180,17 @@ distantarm_board_cycle_agrees κs u v count c x y e f off p q =
     )
 
 -- the start of a recording, whatever the count was, and a cycle of it: the number, the count and the buffer
-pub distantarm_record_start_agrees : (κs : Lfts 2) (κ₁ : Lfts 1) (t : MutBor (List ℕ)) (count : MutBor ℕ) (x : Recorded) (y : ℕ)
+pub distantarm_record_start_agrees : (κs : Lfts 2) (κ₁ : Lfts 1) (t : MutBor (List ℕ)) (count : MutBor ℕ) (x : Result ℕ Refusal) (y : ℕ)
     (e : AtExit (ended_of 1 record-start-k.ps record-start-k.r) κ₁)
     (f : AtExit (ended_of 2 distantarm-record-start-k.ps distantarm-record-start-k.r) κs)
     → record-start.Learnt κ₁ (t, tt) x e
     → distantarm-record-start.Learnt κs (t, (count, tt)) y f
-    → (x.number ≡ y) × (x.count ≡ f.1.0.now) × (e.0.now ≡ f.0.now)
+    → ((recorded_by 0 x).number ≡ y) × ((recorded_by 0 x).count ≡ f.1.0.now) × (e.0.now ≡ f.0.now)
 distantarm_record_start_agrees κs κ₁ t count x y e f p q = (cc, cc, cc)
 
-pub distantarm_record_agrees : (κs : Lfts 2) (κ₁ : Lfts 1) (t : MutBor (List ℕ)) (count : MutBor ℕ) (c : Cycle) (x : Recorded) (y : ℕ)
+pub distantarm_record_agrees : (κs : Lfts 2) (κ₁ : Lfts 1) (t : MutBor (List ℕ)) (count : MutBor ℕ) (c : Cycle) (x : Result ℕ Refusal) (y : ℕ)
     (e : AtExit (ended_of 1 record-cycle-k.ps record-cycle-k.r) κ₁) (f : AtExit (ended_of 2 distantarm-record-k.ps distantarm-record-k.r) κs)
     → record-cycle.Learnt κ₁ (t, (count.now, (c, tt))) x e
     → distantarm-record.Learnt κs (t, (count, handed c)) y f
-    → (x.number ≡ y) × (x.count ≡ f.1.0.now) × (e.0.now ≡ f.0.now)
+    → ((recorded_by count.now x).number ≡ y) × ((recorded_by count.now x).count ≡ f.1.0.now) × (e.0.now ≡ f.0.now)
 distantarm_record_agrees κs κ₁ t count c x y e f p q = (p.says ∙ sym q.says, p.counts ∙ sym q.counts, p.leaves ∙ sym q.leaves)

@@ -13,16 +13,17 @@ use denote.Triple.Clauses.{AtExit}
 use lib.Dec.{ltb}
 use lib.ListN.{length, replicate}
 use lib.Seq.{sets}
+use Rattle.std.specs.Prelude.{Some}
 use Rattle.text.proofs.Sample.{input, output}
 use Rattle.text.specs.Listed.{filled, length_of}
 use Rattle.trace_reader.specs.declared.Found.{Found}
-use Rattle.trace_reader.specs.declared.Step.TheVariants.{Record, No}
+use Rattle.std.specs.Prelude.{Ok, Err}
+use Rattle.rules.specs.declared.refusal.Refusal.TheVariants.{PastTheCount}
 use Rattle.rules.specs.Seen.{segment, translating, cycle_with, cycle, translated}
 use Rattle.rules.specs.PowerOn.{power_on}
 use Rattle.rules.specs.declared.Cycle.{Cycle}
 use Rattle.board_rules.specs.declared.BoardCycle.{BoardCycle}
 use Rattle.board_rules.specs.declared.BoardStepped.{BoardStepped}
-use Rattle.board_rules.specs.declared.Named.TheVariants.{Number}
 use Rattle.rules.specs.declared.Stepped.{Stepped}
 use Rattle.unit_lent.proofs.step_by_lending.Kinds as step-by-lending-k
 use Rattle.unit_lent.proofs.step_by_lending.Reads as step-by-lending
@@ -202,11 +203,11 @@ shown_at_known κs p x y e f l m = (l.0, l.1, m.0, m.1)
 
 pub read_at_known : (κs : Lfts 1) (p : ℕ × ℕ) (x y : Found) (e f : AtExit (ended_of 1 read-at-k.ps read-at-k.r) κs)
     → read_at.Learnt κs (shared p input, (5, tt)) x e → read_at.Learnt κs (shared p input, (9, tt)) y f
-    → (x ≡ record { step = Record (cycle_with 8 true false false false 0 21 0 0 false); next = 6 }) × (y ≡ record { step = No 9; next = 9 })
+    → (x ≡ record { step = Ok (cycle_with 8 true false false false 0 21 0 0 false); next = 6 }) × (y ≡ record { step = Err PastTheCount; next = 9 })
 unfolding all_computed
 read_at_known κs p x y e f l m = (
-  finds_only input 5 x (record { step = Record (cycle_with 8 true false false false 0 21 0 0 false); next = 6 }) l ((refl, refl), refl),
-  finds_only input 9 y (record { step = No 9; next = 9 }) m ((refl, refl), refl),
+  finds_only input 5 x (record { step = Ok (cycle_with 8 true false false false 0 21 0 0 false); next = 6 }) l ((refl, refl), refl),
+  finds_only input 9 y (record { step = Err PastTheCount; next = 9 }) m ((refl, refl), refl),
 )
 
 -- the same cycle, on a board of two unit records, of which unit 1 has the segment
@@ -217,7 +218,7 @@ pub step_board_known : (κs : Lfts 0) (s : BoardStepped) (e : AtExit (ended_of 0
     ) s e
     → s ≡ record {
       board = record { units = power_on ∷ translating (segment 8977 32 129) ∷ []; count = 2 };
-      answer = record { answer = translated 8998 false false 11; named = Number 1 };
+      answer = record { answer = translated 8998 false false 11; named = Some 1 };
     }
 unfolding all_computed
 step_board_known κs s e l = l

@@ -3,7 +3,7 @@
 -- other crate's proof uses has its law in its own crate, in proofs/Once.antt, where an edit can weaken the contract beside it.
 -- Assumes nothing.
 use mathlib.Core.List.{List}
-use mathlib.Core.Path.{◌≡◌}
+use mathlib.Core.Path.{◌≡◌, refl, sym, ap, subst}
 use Prim.Native.Nat.{ℕ}
 use contract.Lifetimes.{Lfts}
 use borrow.Fn.Kinds.{ParamKind, ResultKind, Dens, Out, res_t, ended_of}
@@ -30,7 +30,13 @@ use Rattle.trace_records.proofs.part.Kinds as part-k
 use Rattle.trace_records.proofs.part.Reads as part
 use Rattle.trace_records.proofs.decode.Kinds as decode-k
 use Rattle.trace_records.proofs.decode.Reads as decode
-use Rattle.trace_writer.specs.declared.Recorded.{Recorded}
+use Rattle.std.specs.Prelude.{Option, Result, Ok, Err, Some, None, unwrap_or, IsSome, ◌↔◌, ◌≤◌, length}
+use Rattle.std.proofs.lemmas.Bool.{false≢true}
+use Rattle.text.specs.Listed.{text_room}
+use Rattle.rules.proofs.Numbers.{refusal_by_number, refusal_says_no, outcome_by_number}
+use Rattle.rules.specs.Numbers.{number_of_outcome}
+use Rattle.rules.specs.declared.refusal.Refusal.{Refusal}
+use Rattle.trace_writer.specs.Writing.{recorded_by}
 use Rattle.trace_writer.proofs.record_start.Kinds as record-start-k
 use Rattle.trace_writer.proofs.record_start.Reads as record-start
 use Rattle.trace_writer.proofs.record_cycle.Kinds as record-cycle-k
@@ -79,7 +85,9 @@ number_only κs a b x y e f s p q = cc
 pub refusal_only : Two 1 refusal-k.ps refusal-k.r refusal.Learnt
     (λ κs a b. a.0.now ≡ b.0.now)
     (λ κs a b x y e f. x ≡ y)
-refusal_only κs a b x y e f s p q = cc
+refusal_only κs a b x y e f s p q =
+    let number : number_of_outcome x ≡ number_of_outcome y = cc in
+    outcome_by_number x y number
 
 pub count_only : Two 1 count-k.ps count-k.r count.Learnt
     (λ κs a b. a.0.now ≡ b.0.now)
@@ -94,7 +102,9 @@ decode_only κs a b x y e f s p q = cc
 pub record_refusal_only : Two 1 record-refusal-k.ps record-refusal-k.r record-refusal.Learnt
     (λ κs a b. (a.0.now ≡ b.0.now) × (a.1.0 ≡ b.1.0))
     (λ κs a b x y e f. x ≡ y)
-record_refusal_only κs a b x y e f s p q = cc
+record_refusal_only κs a b x y e f s p q =
+    let number : number_of_outcome x ≡ number_of_outcome y = cc in
+    outcome_by_number x y number
 
 -- A part of it: its bytes, and its place where the trace stands in one place
 
@@ -108,33 +118,50 @@ part_only κs a b x y e f s p q = (cc, λ same. cc)
 pub run_only : Two 2 run-k.ps run-k.r run.Learnt
     (λ κs a b. (a.0.now ≡ b.0.now) × (a.1.0.now ≡ b.1.0.now))
     (λ κs a b x y e f. (x ≡ y) × (e.1.0.now ≡ f.1.0.now))
-run_only κs a b x y e f s p q = (cc, cc)
+run_only κs a b x y e f s p q =
+    let number : number_of_outcome x ≡ number_of_outcome y = cc in
+    (outcome_by_number x y number, cc)
+
+-- a length and the room that it is there for
+length_told : (room : Type 0) (x y : Option ℕ) → unwrap_or x 0 ≡ unwrap_or y 0 → IsSome x ↔ room → IsSome y ↔ room → x ≡ y
+length_told room None None n p q = refl
+length_told room None (Some m) n p q = absurd (false≢true (p.1 (q.0 refl)))
+length_told room (Some k) None n p q = absurd (false≢true (q.1 (p.0 refl)))
+length_told room (Some k) (Some m) n p q = ap Some n
 
 pub list_only : Two 2 list-k.ps list-k.r list.Learnt
     (λ κs a b. (a.0.now ≡ b.0.now) × (a.1.0.now ≡ b.1.0.now))
     (λ κs a b x y e f. (x ≡ y) × (e.1.0.now ≡ f.1.0.now))
-list_only κs a b x y e f s p q = (cc, cc)
+list_only κs a b x y e f s p q =
+    let count : unwrap_or x 0 ≡ unwrap_or y 0 = cc in
+    let room = subst (λ (l : List ℕ). IsSome x ↔ text_room ≤ length l) s.1 p.1.1 in
+    (length_told (text_room ≤ length b.1.0.now) x y count room q.1.1, cc)
 
 -- the number and the count, of which each is told
-both_told : (x y : Recorded) → x.number ≡ y.number → x.count ≡ y.count → x ≡ y
-both_told x y n c i = record { number = n i; count = c i }
+both_told : (count : ℕ) (x y : Result ℕ Refusal) → (recorded_by count x).number ≡ (recorded_by count y).number
+    → (recorded_by count x).count ≡ (recorded_by count y).count → x ≡ y
+both_told count (Ok m) (Ok n) number counted = ap Ok counted
+both_told count (Ok m) (Err s) number counted = absurd (refusal_says_no s (sym number))
+both_told count (Err r) (Ok n) number counted = absurd (refusal_says_no r number)
+both_told count (Err r) (Err s) number counted = ap Err (refusal_by_number r s number)
 
 pub record_start_only : Two 1 record-start-k.ps record-start-k.r record-start.Learnt
     (λ κs a b. a.0.now ≡ b.0.now)
     (λ κs a b x y e f. (x ≡ y) × (e.0.now ≡ f.0.now))
 record_start_only κs a b x y e f s p q =
-    let number : x.number ≡ y.number = cc in
-    let count : x.count ≡ y.count = cc in
-    (both_told x y number count, cc)
+    let number : (recorded_by 0 x).number ≡ (recorded_by 0 y).number = cc in
+    let counted : (recorded_by 0 x).count ≡ (recorded_by 0 y).count = cc in
+    (both_told 0 x y number counted, cc)
 
 -- with the count, and the cycle
 pub record_cycle_only : Two 1 record-cycle-k.ps record-cycle-k.r record-cycle.Learnt
     (λ κs a b. (a.0.now ≡ b.0.now) × (a.1 ≡ b.1))
     (λ κs a b x y e f. (x ≡ y) × (e.0.now ≡ f.0.now))
 record_cycle_only κs a b x y e f s p q =
-    let number : x.number ≡ y.number = cc in
-    let count : x.count ≡ y.count = cc in
-    (both_told x y number count, cc)
+    let count = a.1.0 in
+    let number : (recorded_by count x).number ≡ (recorded_by count y).number = cc in
+    let counted : (recorded_by count x).count ≡ (recorded_by count y).count = cc in
+    (both_told count x y number counted, cc)
 
 -- Two lent buffers: the units of a board and the packed answer, with the count, the cycle and its selects
 

@@ -39,10 +39,7 @@ fn word_at(bytes: &[u8], at: usize) -> usize
     requires { at < head_size }
     ensures { (result ≡ word_at bytes.now at) × (result < word_values) }
 {
-    usize::from(u16::from_be_bytes([
-        byte_at(bytes, at),
-        byte_at(bytes, at + 1),
-    ]))
+    usize::from(u16::from_be_bytes([byte_at(bytes, at), byte_at(bytes, at + 1)]))
 }
 
 // The trace opens with the mark.

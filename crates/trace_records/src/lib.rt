@@ -30,7 +30,10 @@ pub const RESET: u8 = 128;
 pub fn count(trace: &[u8]) -> usize
     ensures { result ≡ given_of trace.now }
 {
-    if refusal(trace).is_ok() { count_of(trace) } else { 0 }
+    match refusal(trace) {
+        Ok(()) => count_of(trace),
+        Err(_) => 0,
+    }
 }
 
 // What refuses record n: what refuses the trace, or that n is at or past its count; and Ok where nothing does.

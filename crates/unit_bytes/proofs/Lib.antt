@@ -1,6 +1,6 @@
 pub mod Tables
 pub mod Places
-pub mod Ends
+pub mod Made
 pub mod Found
 pub mod Stored
 pub mod InPlace

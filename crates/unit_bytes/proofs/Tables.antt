@@ -1,13 +1,14 @@
--- What one turn does in the two loops over a table, and the byte behind it; and a table by its descriptors.
+-- What one turn does in the loop that stores a table, and the byte behind it; and a table by its descriptors.
 -- Assumes nothing.
 use mathlib.Core.Path.{◌≡◌, refl, sym, ap, ◌∙◌}
 use mathlib.Core.List.{List, [], ◌∷◌, ◌++◌}
 use mathlib.Core.Logic.{⊎_elim}
 use Prim.Native.Nat.{ℕ, zero, suc, ◌+◌, ◌*◌, ◌<◌}
 use native.Mathlib.Nat.{le_of_suc-le-suc, not-suc-le-zero, eq-or-lt_of_le}
+use native.Mathlib.Numerals.{add-one}
 use native.Mathlib.Omega.{arith}
 use lib.ListN.{length, get_or, set, take, length-append, get_or-append}
-use lib.Seq.{sets, take-suc, take-suc-set, length-take-le, get_or_at, ext_get_or}
+use lib.Seq.{sets, take-suc, length-take-le, get_or_at, ext_get_or}
 use Rattle.rules.specs.PowerOn.{blank}
 use Rattle.rules.specs.declared.Descriptor.{Descriptor}
 use Rattle.unit_stores.proofs.Laws.{sets-append}
@@ -31,7 +32,7 @@ table_of t n size = table_length t ∙ ap (λ (k : ℕ). descriptor_size * k) si
 -- one descriptor more is stored
 pub descriptor_stored : (o : List ℕ) (t : List Descriptor) (i : ℕ) → i < length t
     → sets (sets o table_at (table_bytes (take i t))) (descriptor_at i) (descriptor_bytes (get_or t i blank))
-    ≡ sets o table_at (table_bytes (take (suc i) t))
+    ≡ sets o table_at (table_bytes (take (i + 1) t))
 descriptor_stored o t i h =
     let d : Descriptor = get_or t i blank in
     let first : List ℕ = table_bytes (take i t) in
@@ -39,6 +40,7 @@ descriptor_stored o t i h =
     ap (λ (k : ℕ). sets (sets o table_at first) (table_at + k) (descriptor_bytes d)) (sym long)
     ∙ sets-append o table_at first (descriptor_bytes d)
     ∙ ap (sets o table_at) (sym (ap table_bytes (take-suc t i blank h) ∙ table_more (take i t) d))
+    ∙ ap (λ (k : ℕ). sets o table_at (table_bytes (take k t))) (sym (add-one i))
 
 -- the low byte is stored behind them all
 pub low_stored : (o : List ℕ) (t : List Descriptor) (low : ℕ) → length t ≡ segments
@@ -46,13 +48,6 @@ pub low_stored : (o : List ℕ) (t : List Descriptor) (low : ℕ) → length t �
 low_stored o t low size =
     ap (λ (k : ℕ). set (sets o table_at (table_bytes t)) (table_at + k) low) (sym (table_of t segments size))
     ∙ sets-append o table_at (table_bytes t) (low ∷ [])
-
--- one descriptor more is read
-pub descriptor_read_lem : (l : List ℕ) (t : List Descriptor) (i : ℕ) → i < length t → take i t ≡ table_in l i
-    → take (suc i) (set t i (descriptor_in l (descriptor_at i))) ≡ table_in l (suc i)
-unfolding table_in
-descriptor_read_lem l t i h e =
-    take-suc-set t i (descriptor_in l (descriptor_at i)) h ∙ ap (λ (r : List Descriptor). r ++ (descriptor_in l (descriptor_at i) ∷ [])) e
 
 -- ---- a table by its descriptors: how many, and which
 pub table_long : (l : List ℕ) (n : ℕ) → length (table_in l n) ≡ n

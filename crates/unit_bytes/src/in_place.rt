@@ -2,20 +2,14 @@
 // cycle.
 ghost use Rattle.std.specs.Prelude.{◌≡◌, ◌<◌, ◌≤◌, length};
 ghost use Rattle.unit_bytes.specs.Snapshot.{segments, unit_size};
-ghost use Rattle.unit_bytes.specs.InPlace.{decided_in, put_registers, raised_in, put_change, in_place};
+ghost use Rattle.unit_bytes.specs.InPlace.{decided_in, raised_in, put_change, in_place};
 
-use crate::snapshot;
-use rules::{Answer, Change, Cycle, Registers, Unit};
-
-// The registers' bytes stored, the low byte too.
-#[tactic(auto, unfolding(crate::specs::InPlace::put_registers))]
-fn put_registers(unit: &mut [u8], r: Registers)
-    requires { unit_size ≤ length unit.old }
-    ensures { unit.new ≡ put_registers r unit.old }
-{
-    snapshot::put_registers(unit, r);
-    unit[snapshot::LOW] = r.low;
-}
+use crate::snapshot::{
+    ATTRIBUTES, DESCRIPTOR, LOW, TABLE, descriptor_bytes, descriptor_in, register_bytes,
+    registers_in,
+};
+use rules::{Answer, Change, Cycle, Unit};
+use unit_stores::store;
 
 // Flags set in the attributes of every descriptor.
 #[tactic(auto, unfolding(crate::specs::InPlace::raised_in))]
@@ -24,8 +18,7 @@ fn raised(unit: &mut [u8], mask: u8)
     ensures { unit.new ≡ raised_in mask segments unit.old }
 {
     for i in 0..Unit::DESCRIPTORS {
-        let at = snapshot::TABLE + snapshot::DESCRIPTOR * i + snapshot::ATTRIBUTES;
-        unit[at] = unit[at] | mask;
+        unit[TABLE + DESCRIPTOR * i + ATTRIBUTES] |= mask;
     }
 }
 
@@ -37,29 +30,23 @@ fn put_change(unit: &mut [u8], h: Change, i: usize)
 {
     match h {
         Change::Keep => {}
-        Change::Put(d) => {
-            snapshot::put_descriptor(unit, snapshot::TABLE + snapshot::DESCRIPTOR * i, d);
-        }
-        Change::Raise(mask) => {
-            raised(unit, mask);
-        }
+        Change::Put(d) => store(unit, TABLE + DESCRIPTOR * i, &descriptor_bytes(d)),
+        Change::Raise(mask) => raised(unit, mask),
     }
 }
 
 // One cycle of the unit in the bytes, in place: the registers and at most the descriptors that change are written.
-#[tactic(auto, unfolding(crate::specs::InPlace::looked_at, crate::specs::InPlace::decided_in, crate::specs::InPlace::in_place))]
+#[tactic(auto, unfolding(crate::specs::InPlace::looked_at, crate::specs::InPlace::decided_in, crate::specs::InPlace::put_registers, crate::specs::InPlace::in_place))]
 pub fn stepped(unit: &mut [u8], c: Cycle) -> Answer
     requires { unit_size ≤ length unit.old }
     ensures { (result ≡ (decided_in unit.old c).answer) × (unit.new ≡ in_place unit.old c) }
 {
-    let r = snapshot::registers_in(unit);
-    let place = unit_decide::place_of(r, c);
-    let i = (place % Unit::SEGMENTS) as usize;
-    let d = snapshot::descriptor_in(unit, snapshot::TABLE + snapshot::DESCRIPTOR * i);
+    let r = registers_in(unit);
+    let i = (unit_decide::place_of(r, c) % Unit::SEGMENTS) as usize;
+    let d = descriptor_in(unit, TABLE + DESCRIPTOR * i);
     let p = unit_decide::act(r, d, c);
-    let registers = p.registers;
-    let change = p.change;
-    put_registers(unit, registers);
-    put_change(unit, change, i);
+    store(unit, 0, &register_bytes(p.registers));
+    unit[LOW] = p.registers.low;
+    put_change(unit, p.change, i);
     p.answer
 }

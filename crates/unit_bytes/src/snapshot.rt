@@ -7,7 +7,8 @@ ghost use Rattle.unit_bytes.specs.Snapshot.{descriptor_bytes, table_bytes, notes
 
 use rules::{Control, Descriptor, Faults, Fetched, Notes, Registers, Unit};
 use rules_flags::flag_if;
-use unit_stores::{BYTE_VALUES, word};
+use std::array;
+use unit_stores::{store, word, word_bytes};
 
 // Where each register of a unit stands, the notes, and the first descriptor.
 pub const MR: usize = 0;
@@ -56,6 +57,7 @@ pub const HOLD: u8 = 8;
 pub const LAST_NOTES: u8 = REQUEST | AWAIT | OWN | HOLD;
 
 // The descriptor of the four bytes from an index on.
+#[tactic(auto, unfolding(crate::specs::Snapshot::descriptor_in, unit_stores::specs::Word::word_at))]
 pub fn descriptor_in(bytes: &[u8], at: usize) -> Descriptor
     requires { at + descriptor_size ≤ length bytes.now }
     ensures { result ≡ descriptor_in bytes.now at }
@@ -67,25 +69,8 @@ pub fn descriptor_in(bytes: &[u8], at: usize) -> Descriptor
     }
 }
 
-// The table of a unit's bytes.
-#[tactic(auto, unfolding(crate::specs::Snapshot::table_in))]
-fn table_in(bytes: &[u8]) -> [Descriptor; Unit::DESCRIPTORS]
-    requires { unit_size ≤ length bytes.now }
-    ensures { result ≡ table_in bytes.now segments }
-{
-    let blank = Descriptor {
-        base: 0,
-        limit: 0,
-        attributes: 0,
-    };
-    let mut table = [blank; Unit::DESCRIPTORS];
-    for i in 0..Unit::DESCRIPTORS {
-        table[i] = descriptor_in(bytes, TABLE + DESCRIPTOR * i);
-    }
-    table
-}
-
 // The four notes of their byte.
+#[tactic(auto, unfolding(crate::specs::Snapshot::notes_in))]
 fn notes_in(byte: u8) -> Notes
     ensures { result ≡ notes_in byte }
 {
@@ -125,14 +110,23 @@ pub fn registers_in(bytes: &[u8]) -> Registers
 }
 
 // The unit of its bytes.
-#[tactic(auto, unfolding(crate::specs::Snapshot::unit_in))]
 pub fn unit_in(bytes: &[u8]) -> Unit
     requires { unit_size ≤ length bytes.now }
     ensures { result ≡ unit_in bytes.now }
 {
-    let table = table_in(bytes);
-    let registers = registers_in(bytes);
-    Unit { table, registers }
+    Unit {
+        table: array::from_fn(|i| descriptor_in(bytes, TABLE + DESCRIPTOR * i)),
+        registers: registers_in(bytes),
+    }
+}
+
+// A descriptor's bytes.
+#[tactic(auto, unfolding(crate::specs::Snapshot::descriptor_bytes))]
+pub fn descriptor_bytes(d: Descriptor) -> [u8; DESCRIPTOR]
+    ensures { result ≡ descriptor_bytes d }
+{
+    let [high, low] = word_bytes(d.base);
+    [high, low, d.limit, d.attributes]
 }
 
 // A descriptor's bytes stored from an index on.
@@ -140,24 +134,7 @@ pub fn put_descriptor(out: &mut [u8], at: usize, d: Descriptor)
     requires { at + descriptor_size ≤ length out.old }
     ensures { out.new ≡ sets out.old at (descriptor_bytes d) }
 {
-    let base = d.base;
-    out[at] = (base / BYTE_VALUES) as u8;
-    out[at + 1] = (base % BYTE_VALUES) as u8;
-    out[at + LIMIT] = d.limit;
-    out[at + ATTRIBUTES] = d.attributes;
-}
-
-// What stands behind the registers and the notes, stored at its place: a table's bytes, and the low byte.
-#[tactic(auto, using(crate::proofs::Tables::descriptor_stored, crate::proofs::Tables::low_stored), unfolding(crate::specs::Snapshot::table_bytes))]
-fn put_behind(out: &mut [u8], table: [Descriptor; Unit::DESCRIPTORS], low: u8)
-    requires { unit_size ≤ length out.old }
-    ensures { out.new ≡ sets out.old table_at (table_bytes table ++ (low ∷ [])) }
-{
-    for i in 0..Unit::DESCRIPTORS {
-        let d = table[i];
-        put_descriptor(out, TABLE + DESCRIPTOR * i, d);
-    }
-    out[LOW] = low;
+    store(out, at, &descriptor_bytes(d));
 }
 
 // The notes in a byte.
@@ -171,34 +148,34 @@ fn notes_byte(n: Notes) -> u8
         | flag_if(n.hold, HOLD)
 }
 
-// The registers' bytes stored at the start, all but the low byte.
+// The registers' bytes, all but the low byte.
 #[tactic(auto, unfolding(crate::specs::Snapshot::register_bytes))]
-pub fn put_registers(out: &mut [u8], r: Registers)
-    requires { table_at ≤ length out.old }
-    ensures { out.new ≡ sets out.old 0 (register_bytes r) }
+pub fn register_bytes(r: Registers) -> [u8; TABLE]
+    ensures { result ≡ register_bytes r }
 {
-    let n = r.notes;
-    let notes = notes_byte(n);
-    out[MR] = r.control.mr;
-    out[SAR] = r.control.sar;
-    out[DSCR] = r.control.dscr;
-    out[VTR] = r.faults.vtr;
-    out[VSN] = r.faults.vsn;
-    out[VOFF] = r.faults.voff;
-    out[BCSR] = r.faults.bcsr;
-    out[ISN] = r.fetched.isn;
-    out[IOFF] = r.fetched.ioff;
-    out[NOTES] = notes;
+    [
+        r.control.mr,
+        r.control.sar,
+        r.control.dscr,
+        r.faults.vtr,
+        r.faults.vsn,
+        r.faults.voff,
+        r.faults.bcsr,
+        r.fetched.isn,
+        r.fetched.ioff,
+        notes_byte(r.notes),
+    ]
 }
 
 // A unit's bytes stored at the start.
-#[tactic(auto, unfolding(crate::specs::Snapshot::unit_bytes, crate::specs::Snapshot::register_bytes))]
+#[tactic(auto, unfolding(crate::specs::Snapshot::table_bytes))]
 pub fn put_unit(out: &mut [u8], u: Unit)
     requires { unit_size ≤ length out.old }
     ensures { out.new ≡ sets out.old 0 (unit_bytes u) }
 {
-    let registers = u.registers;
-    let table = u.table;
-    put_registers(out, registers);
-    put_behind(out, table, u.registers.low);
+    store(out, 0, &register_bytes(u.registers));
+    for (i, d) in u.table.iter().enumerate() {
+        store(out, TABLE + DESCRIPTOR * i, &descriptor_bytes(*d));
+    }
+    out[LOW] = u.registers.low;
 }

@@ -71,14 +71,14 @@ pub fn put(out: &mut [u8], at: usize, a: Answer)
     requires { at + width ≤ length out.old }
     ensures { out.new ≡ sets out.old at (packed a) }
 {
-    store(out, at, packed(a));
+    store(out, at, &packed(a));
 }
 
 // The bytes of an answer of this kind stored at the start of a buffer, and the number of its refusal, or 0.
-pub fn show<const N: usize>(buffer: &mut [u8], bytes: [u8; N], kind: Kind) -> u8
+pub fn show<const N: usize>(buffer: &mut [u8], bytes: &[u8; N], kind: Kind) -> u8
     requires { N ≤ length buffer.old }
     ensures says { result ≡ number_of kind }
-    ensures shows { buffer.new ≡ sets buffer.old 0 bytes.entry }
+    ensures shows { buffer.new ≡ sets buffer.old 0 bytes.now }
 {
     store(buffer, 0, bytes);
     rules_answers::number(kind)

@@ -1,22 +1,62 @@
--- Two of its ends. Assumes nothing.
+-- Three of its ends. Assumes nothing.
+use mathlib.Core.Path.{◌≡◌, sym, ap, ◌∙◌}
+use mathlib.Core.Bool.{Bool, true, false, cond}
+use mathlib.Core.Option.{Option, none, some}
 use borrow.Author.Tests.{le-ltb}
-use Rattle.std.proofs.Common.{◌*◌, length}
+use Rattle.std.specs.Prelude.{Option as Optional}
+use Rattle.std.proofs.Common.{◌*◌, ℕ, length, arith}
+use Rattle.rules.specs.Kinds.{number_of}
 use Rattle.unit_bytes.specs.Snapshot.{unit_size}
+use Rattle.board_rules.specs.Board.{Refusal, refusing}
+use Rattle.board_rules.specs.declared.BoardAnswer.{BoardAnswer}
+use Rattle.board_rules.specs.declared.BoardCycle.{BoardCycle}
+use Rattle.theorems_boards.proofs.Numbers.{good_count}
+use Rattle.board_refusals.specs.Judged.{by_number, given, refuses, refusal_in}
+use Rattle.board_refusals.specs.declared.Judged.{Judged}
+use Rattle.board_refusals.specs.declared.Verdict.{Verdict}
+use Rattle.board_refusals.proofs.Laws.{refused_by, accepted_by}
 use Rattle.board_packed.specs.BoardPacked.{board_width}
-use Rattle.board_bytes.proofs.Ends.{wrong_end, cycle_end}
+use Rattle.board_bytes.specs.Boarded.{board_in}
+use Rattle.board_bytes.proofs.Ends.{wrong_end, cycle_end, refused_ends, stepped_ends, stepped_number}
 use Rattle.board_bytes.proofs.cycle.Goals as goal
 
-pub returns-then-wrong : goal.returns-then-wrong
-returns-then-wrong c =
+-- the number of a refusal's answer
+refusing_number : {a : BoardAnswer} (r : Refusal) (trap : Bool) → a ≡ refusing r trap → r.number ≡ number_of a.answer.kind
+refusing_number r trap e = sym (ap (λ (x : BoardAnswer). number_of x.answer.kind) e)
+
+pub returns-then-count : goal.returns-then-count
+returns-then-count c =
     let start = c.args in
+    let said = c.refused-a.ensures ∙ ap (λ (n : ℕ). refusing (record { number = n; named = _ }) false) c.into.ensures in
     wrong_end (record { cycle = start.c; selects = start.selects }) start.count start.units.now start.answer.now
-    c.refused-a.result (le-ltb (length start.answer.now) board_width c.if-short.false) c.if-wrong.true c.refused-a.ensures
-    c.show.ensures.0 c.show.ensures.1
+    c.refused-a.result (le-ltb (length start.answer.now) board_width c.if-answer-lt-BYTES.false) c.if-count.true said
+    (refusing_number _ false said) c.put.ensures
+
+pub returns-in-Some : goal.returns-in-Some
+returns-in-Some c =
+    let start = c.args in
+    let b : BoardCycle = record { cycle = start.c; selects = start.selects } in
+    let j : Judged = c.judge_all-j.result in
+    let v : Verdict = c.in-Some.v in
+    let why = refused_by (refuses j start.c.read) (by_number v) (refusal_in j) (sym (ap given c.in-Some.is) ∙ c.refuses.ensures) in
+    let said : c.refused-a-in-Some.result ≡ refusing (by_number v) j.stood =
+    c.refused-a-in-Some.ensures ∙ ap (λ (n : ℕ). refusing (record { number = n; named = v.named }) j.stood) c.into-in-Some.ensures in
+    let ends = refused_ends start.units.now start.count b j c.judge_all-j.ensures c.refused-a-in-Some.result why.0
+    (said ∙ ap (λ (r : Refusal). refusing r j.stood) why.1) in
+    cycle_end b start.count start.units.now start.answer.now
+    c.refused-a-in-Some.result (le-ltb (length start.answer.now) board_width c.if-answer-lt-BYTES.false) c.if-count.false
+    (le-ltb (length start.units.now) (unit_size * start.count) c.if-units-count.false)
+    ends.0 ends.1 (refusing_number _ j.stood said) c.put-in-Some.ensures
 
 pub returns : goal.returns
 returns c =
     let start = c.args in
-    cycle_end (record { cycle = start.c; selects = start.selects }) start.count start.units.now start.answer.now
-    c.cycled-a.result (le-ltb (length start.answer.now) board_width c.if-short.false) c.if-wrong.false
-    (le-ltb (length start.units.now) (unit_size * start.count) c.if-narrow.false)
-    c.cycled-a.ensures.0 c.cycled-a.ensures.1 c.show-2.ensures.0 c.show-2.ensures.1
+    let b : BoardCycle = record { cycle = start.c; selects = start.selects } in
+    let j : Judged = c.judge_all-j.result in
+    let accepts = accepted_by (refuses j start.c.read) (refusal_in j) (sym (ap given c.in_default.is) ∙ c.refuses.ensures) in
+    let ends = stepped_ends start.units.now start.count b j c.judge_all-j.ensures c.told.result c.step_all-joint.new.units c.step_all-joint.result
+    accepts ((good_count (board_in start.units.now start.count)).0 c.if-count.false).0 c.told.ensures c.step_all-joint.ensures.0 c.step_all-joint.ensures.1 in
+    cycle_end b start.count start.units.now start.answer.now
+    c.told.result (le-ltb (length start.answer.now) board_width c.if-answer-lt-BYTES.false) c.if-count.false
+    (le-ltb (length start.units.now) (unit_size * start.count) c.if-units-count.false)
+    ends.0 ends.1 (stepped_number start.units.now start.count b j c.judge_all-j.ensures c.told.result accepts ends.0) c.put-2.ensures

@@ -17,24 +17,26 @@ use Rattle.rules.specs.declared.Registers.{Registers}
 use Rattle.rules.specs.declared.Unit.{Unit}
 use Rattle.theorems_runs.specs.Sequences.{Every}
 use Rattle.theorems_runs.specs.Undamaged.{Undamaged}
-use Rattle.board_rules.specs.Board.{seated, seen_by, refusing, board_answers, board_final}
+use Rattle.board_rules.specs.Board.{Refusal, seated, seen_by, refusing, board_answers, board_final}
 use Rattle.board_rules.specs.declared.Board.{Board}
 use Rattle.board_rules.specs.declared.BoardCycle.{BoardCycle}
 use Rattle.theorems_boards.specs.Seats.{live}
 use Rattle.theorems_boards.proofs.Units.{board_from_power_on}
-use Rattle.board_refusals.specs.Judged.{refuses, refusal_in}
+use Rattle.board_refusals.specs.Judged.{refuses, refusal_in, by_number, given}
+use Rattle.board_refusals.proofs.Laws.{refused_by, accepted_by}
 use Rattle.board_refusals.specs.declared.Judged.{Judged}
+use Rattle.board_refusals.specs.declared.Verdict.{Verdict}
 use Rattle.board_answers.specs.Joint.{joining}
 use Rattle.board_answers.specs.declared.Joint.{Joint}
 use Rattle.board_packed.specs.BoardPacked.{board_packed_all}
 use Rattle.board_run.specs.BoardRun.{record_size, board_cycles_to, board_ran_to}
-use Rattle.board_run.specs.Plan.{table_of, units_of, Changed, Planned, PlanIs, judged_with}
+use Rattle.board_run.specs.Plan.{table_of, units_of, Changed, Planned, PlanIs, any_asks}
 use Rattle.board_run.proofs.Flat.{stored_changed, kept-changed, units-length}
 use Rattle.board_run.proofs.Stepping.{Stepping, units-all, stepping_begins, stepping_ends, turn_off, admitted_now, turn_by, by_change}
 use Rattle.board_run.proofs.Boards.{board_of, in_range, healthy, refused_board, accepted_board, stepped_board}
 use Rattle.board_run.proofs.Turns.{board_at, cycle_at, turn_ends, board_begins}
 use Rattle.board_run.proofs.run_to.Goals as goal
-use Rattle.board_run.proofs.run_to.Goals.{then-on+in-Keep, then-on+in-Put, then-on+in-Raise, else-on, then-refuses, else-refuses+else-loop-i-test}
+use Rattle.board_run.proofs.run_to.Goals.{then-on+in-Keep, then-on+in-Put, then-on+in-Raise, else-on, in-Some, in_default+else-loop-i-test}
 
 -- the units are undamaged, and the cycle is in range: the plan is what it says
 planned : (t : List ℕ) (count n : ℕ) (rs : List Registers) (ts : List Descriptor) (b : BoardCycle) (mask : ℕ) (j : Judged)
@@ -78,7 +80,7 @@ loop-i-init c =
     let b : BoardCycle = c.cycle_at-b.result in
     let j : Judged = c.plan-p.result.judged in
     let plan = planned c.args.records.now n l.n l.registers l.tables b c.plan-p.result.mask j l.invariant.3 c.cycle_at-b.ensures c.plan-p.ensures in
-    let accepts : refuses j b.cycle.read ≡ false = sym c.refuses-refuses.ensures ∙ c.if-refuses.false in (
+    let accepts = accepted_by (refuses j b.cycle.read) (refusal_in j) (sym (ap given c.in_default.is) ∙ c.refuses.ensures) in (
       l.invariant.0,
       l.invariant.1,
       rw c.nothing-joint.ensures
@@ -142,26 +144,32 @@ loop-n-preserved c =
     let b : BoardCycle = c.cycle_at-b.result in
     let j : Judged = c.plan-p.result.judged in
     let plan = planned t n l.n l.registers l.tables b c.plan-p.result.mask j l.invariant.3 c.cycle_at-b.ensures c.plan-p.ensures in
-    elim c.if-refuses.branch [
-      | then-refuses w ↦
-          let ends =
-          refused_board l.registers l.tables n b c.requires.0 c.requires.1 j plan.known (sym c.refuses-refuses.ensures ∙ w.if-refuses.true) in
+    elim c.match-refuses.branch [
+      | in-Some w ↦
+          let v : Verdict = w.in-Some.v in
+          let why = refused_by (refuses j b.cycle.read) (by_number v) (refusal_in j) (sym (ap given w.in-Some.is) ∙ c.refuses.ensures) in
+          let ends = refused_board l.registers l.tables n b c.requires.0 c.requires.1 j plan.known why.0 in
+          let said : w.refused-a.result ≡ refusing (refusal_in j) (any_asks l.registers n) =
+          w.refused-a.ensures
+          ∙ ap (λ (k : ℕ). refusing (record { number = k; named = v.named }) w.asks.result) w.into.ensures
+          ∙ ap (λ (r : Refusal). refusing r w.asks.result) why.1
+          ∙ ap (λ (s : Bool). refusing (refusal_in j) s) w.asks.ensures in
           let made =
-          turn_ends t o l.out w.put.new.out n l.n l.registers l.registers l.tables l.tables b w.refusal-a.result
-          l.invariant.2 l.invariant.3 c.cycle_at-b.ensures
-          (w.refusal-a.ensures ∙ ap (λ (s : Bool). refusing (refusal_in (judged_with j s)) s) w.asks.ensures ∙ ends.0) ends.1 w.put.ensures in
+          turn_ends t o l.out w.put.new.out n l.n l.registers l.registers l.tables l.tables b w.refused-a.result
+          l.invariant.2 l.invariant.3 c.cycle_at-b.ensures (said ∙ ends.0) ends.1 w.put.ensures in
           rw (w.out-is, w.tables-is, w.registers-is) (l.invariant.0, l.invariant.1, made.1, made.2)
-      | else-refuses+else-loop-i-test w ↦
+      | in_default+else-loop-i-test w ↦
           let last = w.loop-i in
           let us : List Unit = units_of l.registers l.tables n in
+          let accepts = accepted_by (refuses j b.cycle.read) (refusal_in j) (sym (ap given w.in_default.is) ∙ c.refuses.ensures) in
           let stepped =
           stepping_ends us n b.selects b.cycle last.registers last.tables last.joint last.i last.left last.mask last.invariant.2
           (omega (arith, w.loop-i-test.false)) (units-all l.registers l.tables n) in
           let ends =
-          stepped_board l.registers l.tables n b c.requires.0 c.requires.1 j plan.known (sym c.refuses-refuses.ensures ∙ w.if-refuses.false)
+          stepped_board l.registers l.tables n b c.requires.0 c.requires.1 j plan.known accepts
           last.registers last.tables last.joint stepped.0 stepped.1 in
           let made =
-          turn_ends t o l.out w.put-else-refuses.new.out n l.n l.registers last.registers l.tables last.tables b w.told-a.result
-          l.invariant.2 l.invariant.3 c.cycle_at-b.ensures (w.told-a.ensures ∙ ends.0) ends.1 w.put-else-refuses.ensures in
+          turn_ends t o l.out w.put-in_default.new.out n l.n l.registers last.registers l.tables last.tables b w.told-a.result
+          l.invariant.2 l.invariant.3 c.cycle_at-b.ensures (w.told-a.ensures ∙ ends.0) ends.1 w.put-in_default.ensures in
           rw (w.out-is, w.tables-is, w.registers-is) (last.invariant.0, last.invariant.1, made.1, made.2)
     ]

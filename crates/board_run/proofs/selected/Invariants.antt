@@ -4,4 +4,4 @@ use Rattle.board_run.proofs.Selects.{Come}
 use Rattle.board_run.proofs.selected.Given as goal
 
 abbrev pub invariant-loop-i : goal.invariant-loop-i
-invariant-loop-i l = Come l.fn.count l.fn.selects l.some l.several l.first l.left l.i (l.fn.count - l.i)
+invariant-loop-i l = Come l.count l.selects l.first l.several l.left l.i (l.count - l.i)
