@@ -8,7 +8,6 @@ ghost use Rattle.theorems_boards.specs.Numbers.{may_drive};
 ghost use Rattle.board_refusals.specs.Judged.{code_refusal, number_given, code_number, asking, own_refusal_of, own_number_of, unjudged, judging, refuses, refusal_in, given};
 
 use board_rules::BoardAnswer;
-use command_codes::decode;
 use rules::refusal::Refusal;
 use rules::{Command, Cycle, Kind, Registers, Unit};
 use unit_dispatch::refusals;
@@ -63,7 +62,7 @@ pub fn ask(c: Cycle) -> Asked
         outside: refusals::out_of_range(c),
         memory: !c.reset & ((8 <= c.status) & (c.status <= 13)),
         command: !c.reset & (c.status == Unit::COMMAND) & !c.dma,
-        refusal: code_refusal(decode::command(c.offset), c.read),
+        refusal: code_refusal(Command::from(c.offset), c.read),
     }
 }
 

@@ -122,16 +122,11 @@ fn selected(selects: u16, count: usize) -> Chosen
     ensures { (is_some result.first ≡ any_on count selects) × (result.several ≡ several_on count selects)
         × (unwrap_or result.first count ≡ first_on 0 count selects) }
 {
-    let mut first = None;
-    let mut several = false;
-    let mut left = selects;
-    for i in 0..count {
-        let on = left % 2 == 1;
-        several = several | (first.is_some() & on);
-        first = first.or(on.then_some(i as u8));
-        left = left / 2;
+    let live = u32::from(selects) % (1 << count);
+    Chosen {
+        first: (live != 0).then_some(live.trailing_zeros() as u8),
+        several: 1 < live.count_ones(),
     }
-    Chosen { first, several }
 }
 
 // A request stands in a unit.

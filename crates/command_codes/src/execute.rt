@@ -2,7 +2,7 @@
 ghost use Rattle.std.specs.Prelude.{◌≡◌};
 ghost use Rattle.rules.specs.Commands.{executed, commanded};
 
-use crate::decode;
+use rules::refusal::Refusal;
 use rules::{Change, Command, Cycle, Decision, Descriptor, Registers};
 
 // What a code stands for, done.
@@ -10,8 +10,6 @@ use rules::{Change, Command, Cycle, Decision, Descriptor, Registers};
 fn executed(m: Command, read: bool, r: Registers, d: Descriptor, c: Cycle) -> Decision
     ensures { result ≡ executed m read r d c }
 {
-    // a write to a read-only register, or a read of a set or clear command
-    let wrong_way = 4;
     match m {
         Command::Mr => command_single::mode(r, c),
         Command::Sar => command_single::segment(r, c),
@@ -20,18 +18,18 @@ fn executed(m: Command, read: bool, r: Registers, d: Descriptor, c: Cycle) -> De
             if read {
                 command_single::replied(true, command_single::register_of(r, g), r, Change::Keep)
             } else {
-                rules_answers::refused(wrong_way, r)
+                rules_answers::refused(Refusal::WrongWay.into(), r)
             }
         }
         Command::Entry(p) => command_single::entry(r, d, p, c),
         Command::Act(a) => {
             if read {
-                rules_answers::refused(wrong_way, r)
+                rules_answers::refused(Refusal::WrongWay.into(), r)
             } else {
                 command_single::acted(r, a)
             }
         }
-        Command::Unlisted => rules_answers::refused(3, r),
+        Command::Unlisted => rules_answers::refused(Refusal::Unlisted.into(), r),
     }
 }
 
@@ -40,5 +38,5 @@ fn executed(m: Command, read: bool, r: Registers, d: Descriptor, c: Cycle) -> De
 pub fn commanded(r: Registers, d: Descriptor, c: Cycle) -> Decision
     ensures { result ≡ commanded r d c }
 {
-    executed(decode::command(c.offset), c.read, r, d, c)
+    executed(Command::from(c.offset), c.read, r, d, c)
 }

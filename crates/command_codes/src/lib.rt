@@ -1,5 +1,4 @@
-// A selected command: what its code stands for, and what is decided.
+// A selected command: what is decided in it.
 #![tactic(auto)]
 
-pub mod decode;
 pub mod execute;

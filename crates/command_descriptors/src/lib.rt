@@ -51,10 +51,9 @@ pub fn index_of(p: Part, dscr: u8) -> u8
     ensures { result ≡ index_of p dscr }
 {
     match p {
-        Part::Base => dscr,
+        Part::Base | Part::Whole => dscr,
         Part::Limit => 2,
         Part::Attributes => 3,
-        Part::Whole => dscr,
     }
 }
 
@@ -66,8 +65,7 @@ pub fn next_counter(p: Part, dscr: u8) -> u8
     let first = dscr == 0;
     match p {
         Part::Base => { if first { 1 } else { 0 } }
-        Part::Limit => 0,
-        Part::Attributes => 0,
+        Part::Limit | Part::Attributes => 0,
         Part::Whole => (dscr % Unit::BYTES + 1) % Unit::BYTES,
     }
 }

@@ -1,13 +1,13 @@
 // Document 01, "Commands": each command by itself.
 #![tactic(auto)]
 
-ghost use Rattle.std.specs.Prelude.{◌≡◌, cond, ◌%◌};
+ghost use Rattle.std.specs.Prelude.{◌≡◌, ◌%◌};
 ghost use Rattle.rules.specs.Commands.{replied, register_of, restarted, programmed, entry, acted};
 
 use rules::{
     Action, Change, Control, Cycle, Decision, Descriptor, Kind, Part, Register, Registers, Unit,
 };
-use rules_flags::flag_if;
+use rules_flags::{flag_if, pick};
 use rules_registers::{with_control, with_notes, with_vtr};
 
 // A command: a read drives the byte, a write none.
@@ -46,23 +46,12 @@ pub fn restarted(r: Registers, mr: u8) -> Registers
     with_notes(cleared, false, false, false, false)
 }
 
-// A read leaves MR, SAR and DSCR.
-fn kept(read: bool, old: Control, new: Control) -> Control
-    ensures { result ≡ cond read old new }
-{
-    if read {
-        return old;
-    }
-    new
-}
-
-// MR, SAR and DSCR.
+// MR, SAR and DSCR, which a read leaves.
 #[tactic(auto, unfolding(rules::specs::Commands::programmed))]
 fn programmed(r: Registers, c: Cycle, old: u8, k: Control) -> Decision
     ensures { result ≡ programmed r c old k }
 {
-    let control = r.control;
-    let next = kept(c.read, control, k);
+    let next = pick(c.read, r.control, k);
     replied(
         c.read,
         old,

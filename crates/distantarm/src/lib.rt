@@ -94,7 +94,10 @@ pub fn distantarm_board_cycle(
         byte,
         reset,
     };
-    board_bytes::cycle(units, answer, count, c, selects)
+    match board_bytes::cycle(units, answer, count, c, selects) {
+        Ok(()) => 0,
+        Err(e) => e.into(),
+    }
 }
 
 // The start of a recording: 0, the header of no record at the start of the buffer, and the count 0. A buffer that is too short for it gives 10 and

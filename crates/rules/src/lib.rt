@@ -1,6 +1,7 @@
 // The unit, its cycle and its answer: the types that the rules of specs/ speak of, the constants that belong to the unit, and power-on.
 #![tactic(auto)]
 
+pub mod codes;
 pub mod refusal;
 
 ghost use Rattle.std.specs.Prelude.{◌≡◌};

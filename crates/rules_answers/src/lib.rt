@@ -79,13 +79,7 @@ pub fn number(kind: Kind) -> u8
     ensures { result ≡ number_of kind }
 {
     match kind {
-        Kind::Reset => 0,
-        Kind::Acknowledge => 0,
-        Kind::Command => 0,
-        Kind::Aborted => 0,
-        Kind::Translated => 0,
-        Kind::Passed => 0,
-        Kind::Ignored => 0,
         Kind::Refused(n) => n,
+        _ => 0,
     }
 }

@@ -4,6 +4,7 @@
 ghost use Rattle.std.specs.Prelude.{◌≡◌};
 ghost use Rattle.rules.specs.Step.{decided, place_of};
 
+use rules::refusal::Refusal;
 use rules::{Cycle, Decision, Descriptor, Registers, Unit};
 use unit_dispatch::{refusals, status};
 
@@ -14,11 +15,11 @@ pub fn act(r: Registers, d: Descriptor, c: Cycle) -> Decision
 {
     let broken = refusals::damaged(r);
     if broken {
-        return rules_answers::refused(2, r);
+        return rules_answers::refused(Refusal::Damaged.into(), r);
     }
     let outside = refusals::out_of_range(c);
     if outside {
-        return rules_answers::refused(1, r);
+        return rules_answers::refused(Refusal::OutOfRange.into(), r);
     }
     let reset = c.reset;
     if reset {

@@ -1,6 +1,6 @@
 // Document 01, "Which cycle is what": the reset line, and then the status, which decides.
 ghost use Rattle.std.specs.Prelude.{◌≡◌};
-ghost use Rattle.rules.specs.Status.{reset_by, acknowledge_byte, quieted, acknowledged, ignored, purpose_of, by_status};
+ghost use Rattle.rules.specs.Status.{reset_by, acknowledge_byte, quieted, acknowledged, ignored, by_status};
 
 use command_codes::execute;
 use rules::{Address, Answer, Change, Cycle, Decision, Descriptor, Kind, Purpose, Registers, Unit};
@@ -67,19 +67,6 @@ fn ignored(r: Registers) -> Decision
     rules_answers::plain(Kind::Ignored, r, Change::Keep)
 }
 
-// What the status asks for.
-#[tactic(auto, unfolding(rules::specs::Status::purpose_of))]
-fn purpose_of(status: u8) -> Purpose
-    ensures { result ≡ purpose_of status }
-{
-    match status {
-        Unit::ACKNOWLEDGE => Purpose::Acknowledge,
-        Unit::COMMAND => Purpose::Command,
-        8..=13 => Purpose::Memory,
-        _ => Purpose::Other,
-    }
-}
-
 // A cycle with the reset line off.
 #[tactic(auto, unfolding(rules::specs::Status::by_status))]
 pub fn by_status(r: Registers, d: Descriptor, c: Cycle) -> Decision
@@ -87,8 +74,7 @@ pub fn by_status(r: Registers, d: Descriptor, c: Cycle) -> Decision
 {
     let cpu = !c.dma;
     let selected = !c.dma & c.select;
-    let purpose = purpose_of(c.status);
-    match purpose {
+    match Purpose::from(c.status) {
         Purpose::Acknowledge => { if cpu { acknowledged(r) } else { ignored(r) } }
         Purpose::Command => {
             if selected {

@@ -1,18 +1,24 @@
--- The loop of `selected`: one bit more, and none to come. Assumes nothing.
-use Rattle.std.proofs.Common.{◌≡◌, suc, ◌+◌, ◌-◌, ◌/◌, ◌^◌, arith}
-use Rattle.board_run.proofs.Selects.{come_turn, come_ends}
+-- What `selected` answers. Assumes nothing.
+use mathlib.Core.Path.{◌≡◌, refl, sym, ap, ◌∙◌}
+use mathlib.Core.Bool.{Bool, not}
+use Rattle.std.proofs.Common.{ℕ, ◌*◌, ◌%◌, ◌^◌, arith}
+use lib.Count.{ones, count_trailing_zeros}
+use lib.Dec.{eqb, ltb}
+use Rattle.std.specs.Bool.{then_some}
+use Rattle.std.specs.Prelude.{is_some, unwrap_or}
+use Rattle.std.specs.Prelude.{Option as Optional}
+use Rattle.board_run.proofs.Selects.{low, place, some_is, several_is, first_is}
 use Rattle.board_run.proofs.selected.Goals as goal
-
-pub loop-i-preserved : goal.loop-i-preserved
-loop-i-preserved c =
-    let start = c.args in
-    let l = c.loop-i in
-    let fewer : start.count - l.i ≡ suc (start.count - (l.i + 1)) = omega arith in
-    rw (c.or-first.ensures, c.then_some.ensures, c.is_some.ensures)
-    (come_turn start.count start.selects l.first l.several l.left l.i (start.count - (l.i + 1)) (rw fewer at l.invariant))
 
 pub returns : goal.returns
 returns c =
-    let start = c.args in
-    let l = c.loop-i in
-    come_ends start.count start.selects l.first l.several l.left l.i (start.count - l.i) (omega arith) (omega arith) l.invariant
+    let n : ℕ = c.args.count in
+    let left : ℕ = c.args.selects in
+    let live : c.from.result % (1 * 2 ^ n % 4294967296) ≡ low n left =
+    ap (λ (k : ℕ). c.from.result % k) (place n c.requires) ∙ ap (λ (k : ℕ). k % 2 ^ n) c.from.ensures in
+    let told : c.then_some.result ≡ then_some (not (eqb (low n left) 0)) (count_trailing_zeros 32 (low n left)) =
+    c.then_some.ensures ∙ ap (λ (l : ℕ). then_some (not (eqb l 0)) (count_trailing_zeros 32 l)) live in (
+      ap (λ (o : Optional ℕ). is_some o) told ∙ some_is n left (count_trailing_zeros 32 (low n left)),
+      ap (λ (l : ℕ). ltb 1 (ones l)) live ∙ sym (several_is n left),
+      ap (λ (o : Optional ℕ). unwrap_or o n) told ∙ first_is n 32 left (omega arith),
+    )
