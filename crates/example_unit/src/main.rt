@@ -18,9 +18,9 @@ fn passed() -> u16
 }
 
 fn main(rt: HostRuntime) {
-    let block = passed();
+    let [high, low] = passed().to_be_bytes();
     let mut line = *b"xxxx\n";
-    put_hex(&mut line, 0, (block / 256) as u8);
-    put_hex(&mut line, 2, (block % 256) as u8);
-    streams::write_all(&mut rt.stdout(), &line);
+    put_hex(&mut line, 0, high);
+    put_hex(&mut line, 2, low);
+    let _ = streams::write_all(&mut rt.stdout(), &line);
 }

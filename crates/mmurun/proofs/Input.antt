@@ -1,8 +1,9 @@
 -- The text of the bytes that were read is the text of the whole input, where they reached its end or filled the buffer.
 -- Assumes nothing.
-use Rattle.std.proofs.Common.{◌≡◌, ℕ, ◌<◌, ◌≤◌, Bool, true, false, List, [], ◌++◌, None, Some, IfSome, refl, sym, ap, ◌∙◌, subst, length, take, append-nil, take_all}
+use Rattle.std.proofs.Common.{◌≡◌, ℕ, ◌<◌, ◌≤◌, Bool, true, false, List, [], ◌++◌, None, Some, IfSome, Ok, Err, OnOk, refl, sym, ap, ◌∙◌, subst, length, take, append-nil, take_all}
 use Rattle.std.specs.Io.KnownBytes.{Consumes, IsAtEnd, Appends}
 use Rattle.std.specs.declared.option.Option.{Option}
+use Rattle.std.specs.declared.result.Result.{Result}
 use lib.Dec.{ltb}
 use lib.Seq.{take_at}
 use borrow.Author.Tests.{ltb-true, ltb-false}
@@ -24,9 +25,14 @@ module _ (buffer : List ℕ) (n : ℕ) (most : longest format1 < length buffer) 
           let first : take (length buffer) input ≡ read = ap (take (length buffer)) e ∙ take_at read rest (length buffer) (ap length full) in
           ap printed (sym first) ∙ cut (length buffer) input most
 
-  -- what was written of them, where an input and an output know their bytes
-  pub whole_input : (a b c d : Option (List ℕ)) → Consumes a b read → (n < length buffer → IsAtEnd b) → Appends c d (printed read)
+  whole_input : (a b c d : Option (List ℕ)) → Consumes a b read → (n < length buffer → IsAtEnd b) → Appends c d (printed read)
       → IfSome a (λ trace. Appends c d (printed trace))
   whole_input None b c d p end q = tt
   whole_input (Some xs) None c d p end q = absurd p
   whole_input (Some xs) (Some ys) c d p end q = subst (Appends c d) (same xs ys p end) q
+
+  -- what was written of them, where an input and an output know their bytes, and a write may fail
+  pub whole_written : {E : Type 0} (a b c d : Option (List ℕ)) (r : Result (Unit {0}) E) → Consumes a b read → (n < length buffer → IsAtEnd b)
+      → OnOk r (Appends c d (printed read)) → OnOk r (IfSome a (λ trace. Appends c d (printed trace)))
+  whole_written a b c d (Ok u) p end q = whole_input a b c d p end q
+  whole_written a b c d (Err e) p end q = q

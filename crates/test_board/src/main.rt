@@ -6,88 +6,74 @@ mod lines;
 mod show;
 
 use board_rules::Board;
-use rules::Unit;
-use std::io::Stdout;
+use lines::Line;
+use rules::{Cycle, Descriptor, Unit};
+use std::io;
+use std::io::Write;
 use test_lines::show::other;
-use test_lines::{line_end, parse};
 use unit_bytes::snapshot;
 
 // The bytes of all units, one unit's behind another's.
-const ALL: usize = Board::UNITS * snapshot::BYTES;
+type Units = [[u8; snapshot::BYTES]; Board::UNITS];
 
-// All units at power-on.
-fn power_on() -> [u8; ALL] {
-    [0; ALL]
+// The units, and how many of them are on the board.
+#[derive(Drop)]
+struct Seated {
+    units: Units,
+    count: u8,
 }
 
-// The unit of a `U` line, with a table of zeros.
-fn set_unit(units: &mut [u8; ALL], line: &[u8]) {
-    let at = snapshot::BYTES * lines::unit_of(line);
-    let bytes = parse::unit_in(line, lines::OWN);
-    for i in 0..snapshot::BYTES {
-        units[at + i] = bytes[i];
+// So many units on the board, all at power-on.
+fn power_on(count: u8) -> Seated {
+    Seated {
+        units: [[0; snapshot::BYTES]; Board::UNITS],
+        count,
     }
 }
 
-// The descriptor of a `D` line.
-fn set_descriptor(units: &mut [u8; ALL], line: &[u8]) {
-    let d = parse::descriptor_in(line, lines::OWN);
-    let place = (parse::number(line, lines::OWN, parse::FIRST) % Unit::SEGMENTS) as usize;
-    let at = snapshot::BYTES * lines::unit_of(line)
-        + snapshot::TABLE
-        + snapshot::DESCRIPTOR * place;
-    snapshot::put_descriptor(units, at, d);
+// Puts the descriptor of a `D` line.
+fn put_descriptor(units: &mut Units, seat: u8, place: u8, d: Descriptor) {
+    if let Some(unit) = units.get_mut(usize::from(seat)) {
+        let at = snapshot::TABLE + snapshot::DESCRIPTOR * usize::from(place % Unit::SEGMENTS);
+        snapshot::put_descriptor(unit, at, d);
+    }
 }
 
 // The cycle of a `C` line: its answer, and the units that it changed.
-fn step(out: Stdout, units: &mut [u8; ALL], count: u8, line: &[u8]) {
-    let before = *units;
+fn step<W: Write>(out: &mut W, board: &mut Seated, c: Cycle, selects: u16) -> io::Result<()> {
+    let before = board.units;
     let mut answer = [0; board_packed::BYTES];
-    let c = parse::cycle_in(line);
-    let selects = lines::selects_in(line);
-    board_bytes::cycle(units, &mut answer, count as usize, c, selects);
-    show::answer(out, &answer);
-    show::changes(out, &before, units);
+    let count = usize::from(board.count);
+    let _ = board_bytes::cycle(
+        board.units.as_flattened_mut(),
+        &mut answer,
+        count,
+        c,
+        selects,
+    );
+    show::answer(out, &answer)?;
+    show::changes(out, &before, &board.units)
 }
 
-// The number of units after a line; one that asks for nothing is answered at once.
-fn obeyed(out: Stdout, units: &mut [u8; ALL], count: u8, line: &[u8]) -> u8 {
-    match lines::kind_of(line) {
-        b'B' => {
-            *units = power_on();
-            return parse::number(line, 0, parse::FIRST);
+// Does what a line says; one that asks for nothing is answered at once.
+fn obey<W: Write>(out: &mut W, board: &mut Seated, line: &[u8]) -> io::Result<()> {
+    match lines::line_in(line) {
+        Some(Line::Count(count)) => *board = power_on(count),
+        Some(Line::Unit(seat, bytes)) => {
+            if let Some(unit) = board.units.get_mut(usize::from(seat)) {
+                *unit = bytes;
+            }
         }
-        b'U' => {
-            set_unit(units, line);
-        }
-        b'D' => {
-            set_descriptor(units, line);
-        }
-        b'C' => {
-            step(out, units, count, line);
-        }
-        _ => {
-            other(out, line);
-        }
+        Some(Line::Descriptor(seat, place, d)) => put_descriptor(&mut board.units, seat, place, d),
+        Some(Line::Cycle(c, selects)) => step(out, board, c, selects)?,
+        None => other(out, line)?,
     }
-    count
+    Ok(())
 }
 
-// Every line of the script. Before any of them the board has one unit, at power-on.
-fn replay(out: Stdout, script: &[u8]) {
-    let mut units = power_on();
-    let mut count = 1;
-    let mut from = 0;
-    while from < script.len() {
-        let end = line_end(script, from);
-        count = obeyed(out, &mut units, count, &script[from..end]);
-        from = end + 1;
-    }
-}
-
-// At most 65,536 bytes are read; of a longer script the rest is left.
+// Before any line the board has one unit. What fails is not told: the program ends as ever.
 fn main(rt: HostRuntime) {
-    let mut script = streams::large_buffer();
-    let n = streams::read_full(&mut rt.stdin(), &mut script).count;
-    replay(rt.stdout(), &script[..n]);
+    let mut out = rt.stdout();
+    let mut board = power_on(1);
+    let _ = test_lines::each_line(&mut rt.stdin(), |line| obey(&mut out, &mut board, line));
 }

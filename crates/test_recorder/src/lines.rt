@@ -1,56 +1,43 @@
-// The lines of a script: of which form each is, and the numbers that no other script has.
-use test_lines::parse::{FIRST, fits, number};
-use unit_stores::word;
+// The lines of a script.
+use rules::Cycle;
+use test_lines::parse::{cycle_in, fits, numbers};
 
-// How many values a word of 16 bits has.
-pub const WORD_VALUES: u64 = 65536;
+// What a line asks for: a buffer of so many bytes, lent, all of one value; a byte put at an index of it; the count that the next call is given;
+// the start; one cycle; the text of the trace.
+#[derive(Drop)]
+pub enum Line {
+    Lend(u16, u8),
+    Put(u16, u8),
+    Count(usize),
+    Start,
+    Cycle(Cycle),
+    Trace,
+}
 
-// Where a `B` or `P` line has its byte, behind a word.
-const BYTE: u8 = 7;
+// What the numbers of a `B` or `P` line say: a word and a byte.
+fn word_and_byte([high, low, byte]: [u8; 3]) -> (u16, u8) {
+    (u16::from_be_bytes([high, low]), byte)
+}
 
-// The line's letter, where the line is of that letter's form, else 0.
-pub fn kind_of(line: &[u8]) -> u8 {
-    if fits(line, b"B xxxx xx") {
-        return b'B';
+// What the line asks for, where it is of its letter's form.
+pub fn line_in(line: &[u8]) -> Option<Line> {
+    if let Some(numbers) = numbers(line, b"B xxxx xx") {
+        let (length, byte) = word_and_byte(numbers);
+        return Some(Line::Lend(length, byte));
     }
-    if fits(line, b"P xxxx xx") {
-        return b'P';
+    if let Some(numbers) = numbers(line, b"P xxxx xx") {
+        let (at, byte) = word_and_byte(numbers);
+        return Some(Line::Put(at, byte));
     }
-    if fits(line, b"N xxxxxxxxxxxxxxxx") {
-        return b'N';
+    if let Some(numbers) = numbers(line, b"N xxxxxxxxxxxxxxxx") {
+        return Some(Line::Count(usize::from_be_bytes(numbers)));
     }
     if fits(line, b"S") {
-        return b'S';
-    }
-    if fits(line, b"C xx xx xx xx xx xx") {
-        return b'C';
+        return Some(Line::Start);
     }
     if fits(line, b"T") {
-        return b'T';
+        return Some(Line::Trace);
     }
-    0
-}
-
-// The word of four digits that stands `from` bytes behind the place of a line's first number.
-fn word_in(line: &[u8], from: u8) -> u16 {
-    word(number(line, from, FIRST), number(line, from, FIRST + 2))
-}
-
-// The length of a `B` line, or the index of a `P` line.
-pub fn place_in(line: &[u8]) -> u16 {
-    word_in(line, 0)
-}
-
-// The byte of a `B` or `P` line.
-pub fn byte_in(line: &[u8]) -> u8 {
-    number(line, 0, BYTE)
-}
-
-// The count of an `N` line: four words, the highest first.
-pub fn count_in(line: &[u8]) -> usize {
-    let w3 = word_in(line, 0) as u64;
-    let w2 = word_in(line, 4) as u64;
-    let w1 = word_in(line, 8) as u64;
-    let w0 = word_in(line, 12) as u64;
-    (((w3 * WORD_VALUES + w2) * WORD_VALUES + w1) * WORD_VALUES + w0) as usize
+    let numbers = numbers(line, b"C xx xx xx xx xx xx")?;
+    Some(Line::Cycle(cycle_in(numbers)))
 }

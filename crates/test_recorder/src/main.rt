@@ -6,140 +6,87 @@
 mod lines;
 mod show;
 
-ghost use Rattle.std.specs.Prelude.{◌≤◌, length};
-
-use std::io::Stdout;
+use lines::Line;
+use rules::refusal::Refusal;
+use std::io;
+use std::io::Write;
 use test_lines::show::other;
-use test_lines::{line_end, parse};
 use trace_header::{HEAD, RECORD};
-use trace_writer::{Recorded, record_cycle, record_start};
+use trace_writer::{record_cycle, record_start};
 
 // One byte more than a `B` line can lend.
-const ALL: usize = lines::WORD_VALUES as usize;
+const ALL: usize = 65536;
 
-// What the next call is given: how many of the bytes, and the count.
-#[derive(Clone, Copy)]
+// What the next call is given: so many of the bytes, and the count.
+#[derive(Drop)]
 struct Given {
+    buffer: [u8; ALL],
     lent: u16,
     count: usize,
 }
 
-// The buffer of a `B` line, all of one byte.
-fn filled(b: u8) -> [u8; ALL] {
-    [b; ALL]
-}
-
-// The byte of a `P` line, within the lent buffer.
-fn set_byte(buffer: &mut [u8; ALL], lent: u16, line: &[u8]) {
-    let at = lines::place_in(line);
-    if at < lent {
-        buffer[at as usize] = lines::byte_in(line);
+// So many bytes, all of one value, and no record.
+fn lend(lent: u16, byte: u8) -> Given {
+    Given {
+        buffer: [byte; ALL],
+        lent,
+        count: 0,
     }
 }
 
-// The start, in the first bytes of the buffer. A part that names its start is proved with no file.
-fn start(buffer: &mut [u8], end: usize) -> Recorded
-    requires { end ≤ length buffer.old }
+// A call of the recorder with the lent bytes, which is shown; where it is refused, the count is then this one.
+fn call<W: Write, F: FnOnce(&mut [u8]) -> Result<usize, Refusal>>(
+    out: &mut W,
+    given: &mut Given,
+    kept: usize,
+    recorder: F,
+) -> io::Result<()>
+    requires { F.IsAlwaysCallable recorder }
 {
-    record_start(&mut buffer[0..end])
+    let before = given.buffer;
+    let end = usize::from(given.lent);
+    let outcome = recorder(&mut given.buffer[..end]);
+    given.count = outcome.unwrap_or(kept);
+    show::call(
+        out,
+        outcome,
+        given.count,
+        &before[..end],
+        &given.buffer[..end],
+    )
 }
 
-// The cycle of a `C` line, in the first bytes of the buffer.
-fn cycle(buffer: &mut [u8], end: usize, count: usize, line: &[u8]) -> Recorded
-    requires { end ≤ length buffer.old }
-{
-    let c = parse::cycle_in(line);
-    record_cycle(&mut buffer[0..end], count, c)
+// The text of a trace of so many records, or of all lent bytes where these are fewer.
+fn show_trace<W: Write>(out: &mut W, given: &Given) -> io::Result<()> {
+    let end = RECORD
+        .saturating_mul(given.count)
+        .saturating_add(HEAD)
+        .min(usize::from(given.lent));
+    show::trace(out, &given.buffer[..end])
 }
 
-// The count after the start, which is shown.
-fn shown_start(out: Stdout, buffer: &mut [u8; ALL], lent: u16) -> usize {
-    let before = *buffer;
-    let recorded = start(buffer, lent as usize);
-    show::call(out, recorded, &before, buffer, lent);
-    recorded.count
-}
-
-// The count after the cycle of a `C` line, which is shown.
-fn shown_cycle(out: Stdout, buffer: &mut [u8; ALL], lent: u16, count: usize, line: &[u8]) -> usize {
-    let before = *buffer;
-    let recorded = cycle(buffer, lent as usize, count, line);
-    show::call(out, recorded, &before, buffer, lent);
-    recorded.count
-}
-
-// Where a trace of so many records ends, or the lent buffer where that is shorter.
-fn trace_end(lent: u16, count: usize) -> usize
-    ensures { result ≤ lent }
-{
-    let most = lent as usize;
-    if count < most {
-        let end = HEAD + RECORD * count;
-        if end < most {
-            return end;
+// Does what a line says; one that asks for nothing is answered at once.
+fn obey<W: Write>(out: &mut W, given: &mut Given, line: &[u8]) -> io::Result<()> {
+    let count = given.count;
+    match lines::line_in(line) {
+        Some(Line::Lend(lent, byte)) => *given = lend(lent, byte),
+        Some(Line::Put(at, byte)) => {
+            if at < given.lent {
+                given.buffer[usize::from(at)] = byte;
+            }
         }
+        Some(Line::Count(n)) => given.count = n,
+        Some(Line::Start) => call(out, given, 0, record_start)?,
+        Some(Line::Cycle(c)) => call(out, given, count, |bytes| record_cycle(bytes, count, c))?,
+        Some(Line::Trace) => show_trace(out, given)?,
+        None => other(out, line)?,
     }
-    most
+    Ok(())
 }
 
-// The count after a line that lends no buffer; one that asks for nothing is answered at once.
-fn count_after(
-    out: Stdout,
-    buffer: &mut [u8; ALL],
-    lent: u16,
-    count: usize,
-    kind: u8,
-    line: &[u8],
-) -> usize {
-    match kind {
-        b'N' => lines::count_in(line),
-        b'S' => shown_start(out, buffer, lent),
-        b'C' => shown_cycle(out, buffer, lent, count, line),
-        b'P' => {
-            set_byte(buffer, lent, line);
-            count
-        }
-        b'T' => {
-            show::trace(out, buffer, trace_end(lent, count));
-            count
-        }
-        _ => {
-            other(out, line);
-            count
-        }
-    }
-}
-
-// What the next call is given after a line.
-fn obeyed(out: Stdout, buffer: &mut [u8; ALL], given: Given, line: &[u8]) -> Given {
-    let kind = lines::kind_of(line);
-    if kind == b'B' {
-        *buffer = filled(lines::byte_in(line));
-        return Given {
-            lent: lines::place_in(line),
-            count: 0,
-        };
-    }
-    let lent = given.lent;
-    let count = count_after(out, buffer, lent, given.count, kind, line);
-    Given { lent, count }
-}
-
-// Every line of the script. Before any of them the buffer has no bytes.
-fn replay(out: Stdout, script: &[u8]) {
-    let mut buffer = filled(0);
-    let mut given = Given { lent: 0, count: 0 };
-    let mut from = 0;
-    while from < script.len() {
-        let end = line_end(script, from);
-        given = obeyed(out, &mut buffer, given, &script[from..end]);
-        from = end + 1;
-    }
-}
-
-// At most 65,536 bytes are read; of a longer script the rest is left.
+// Before any line the buffer has no bytes. What fails is not told: the program ends as ever.
 fn main(rt: HostRuntime) {
-    let mut script = streams::large_buffer();
-    let n = streams::read_full(&mut rt.stdin(), &mut script).count;
-    replay(rt.stdout(), &script[..n]);
+    let mut out = rt.stdout();
+    let mut given = lend(0, 0);
+    let _ = test_lines::each_line(&mut rt.stdin(), |line| obey(&mut out, &mut given, line));
 }

@@ -1,26 +1,28 @@
-// The lines of a script: of which form each is, and the unit of one.
-use rules::Unit;
+// The lines of a script.
+use rules::{Cycle, Descriptor, Unit};
 use test_lines::parse;
-use test_lines::parse::fits;
 use unit_bytes::snapshot;
 
-// The line's letter, where the line is of that letter's form and names no descriptor above %3F, else 0.
-pub fn kind_of(line: &[u8]) -> u8 {
-    if fits(line, b"U xx xx xx xx xx xx xx xx xx xx xx") {
-        return b'U';
-    }
-    let named = parse::number(line, 0, parse::FIRST) < Unit::SEGMENTS;
-    if named & fits(line, b"D xx xxxx xx xx") {
-        return b'D';
-    }
-    if fits(line, b"C xx xx xx xx xx xx") {
-        return b'C';
-    }
-    0
+// What a line asks for: a unit that it states, a descriptor put at a place, a cycle.
+#[derive(Drop)]
+pub enum Line {
+    Unit(Unit),
+    Descriptor(u8, Descriptor),
+    Cycle(Cycle),
 }
 
-// The unit of a `U` line, with a table of zeros.
-pub fn unit_in(line: &[u8]) -> Unit {
-    let bytes = parse::unit_in(line, 0);
-    snapshot::unit_in(&bytes)
+// What the line asks for, where it is of its letter's form and names no descriptor above %3F.
+pub fn line_in(line: &[u8]) -> Option<Line> {
+    if let Some(numbers) = parse::numbers::<11>(line, b"U xx xx xx xx xx xx xx xx xx xx xx") {
+        let bytes = parse::unit_in(&numbers);
+        return Some(Line::Unit(snapshot::unit_in(&bytes)));
+    }
+    if let Some(numbers) = parse::numbers(line, b"D xx xxxx xx xx") {
+        let (place, d) = parse::descriptor_in(numbers);
+        if place < Unit::SEGMENTS {
+            return Some(Line::Descriptor(place, d));
+        }
+    }
+    let numbers = parse::numbers(line, b"C xx xx xx xx xx xx")?;
+    Some(Line::Cycle(parse::cycle_in(numbers)))
 }

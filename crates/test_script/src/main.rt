@@ -5,65 +5,45 @@
 mod lines;
 mod show;
 
-use rules::{Change, Unit};
-use rules_flags::pick;
-use std::io::Stdout;
+use lines::Line;
+use rules::{Cycle, Descriptor, Unit};
+use std::io;
+use std::io::Write;
 use test_lines::show::other;
-use test_lines::{line_end, parse};
-use unit_lent::step_by_lending;
-use unit_step::table;
+use unit_lent::step_in_place;
 
-// The unit with the descriptor of a `D` line.
-fn with_descriptor(u: Unit, line: &[u8]) -> Unit {
-    let d = parse::descriptor_in(line, 0);
-    let t = u.table;
-    let registers = u.registers;
-    let place = parse::number(line, 0, parse::FIRST);
-    let table = table::changed(Change::Put(d), place, t);
-    Unit { table, registers }
-}
-
-// The unit after the cycle of a `C` line, stepped in place, which is shown with a descriptor: that at SAR, as it stood, at status 3, else the
-// segment's.
-fn stepped(out: Stdout, u: Unit, line: &[u8]) -> Unit {
-    let c = parse::cycle_in(line);
-    let place = pick(
-        c.status == Unit::COMMAND,
-        u.registers.control.sar,
-        c.segment,
-    );
-    let s = step_by_lending(u, c);
-    show::cycle(out, s, place % Unit::SEGMENTS);
-    s.unit
-}
-
-// The unit after a line; one that asks for nothing is answered at once.
-fn obeyed(out: Stdout, u: Unit, line: &[u8]) -> Unit {
-    match lines::kind_of(line) {
-        b'U' => lines::unit_in(line),
-        b'D' => with_descriptor(u, line),
-        b'C' => stepped(out, u, line),
-        _ => {
-            other(out, line);
-            u
-        }
+// Puts the descriptor of a `D` line.
+fn put_descriptor(unit: &mut Unit, place: u8, d: Descriptor) {
+    if let Some(slot) = unit.table.get_mut(usize::from(place)) {
+        *slot = d;
     }
 }
 
-// Every line of the script.
-fn replay(out: Stdout, script: &[u8]) {
-    let mut unit = Unit::power_on();
-    let mut from = 0;
-    while from < script.len() {
-        let end = line_end(script, from);
-        unit = obeyed(out, unit, &script[from..end]);
-        from = end + 1;
-    }
+// Steps the unit in place by the cycle of a `C` line, and shows it with a descriptor: that at SAR, as it stood, at status 3, else the segment's.
+fn step<W: Write>(out: &mut W, unit: &mut Unit, c: Cycle) -> io::Result<()> {
+    let place = if c.status == Unit::COMMAND {
+        unit.registers.control.sar
+    } else {
+        c.segment
+    };
+    let answer = step_in_place(unit, c);
+    show::cycle(out, answer, *unit, place)
 }
 
-// At most 65,536 bytes are read; of a longer script the rest is left.
+// Does what a line says; one that asks for nothing is answered at once.
+fn obey<W: Write>(out: &mut W, unit: &mut Unit, line: &[u8]) -> io::Result<()> {
+    match lines::line_in(line) {
+        Some(Line::Unit(stated)) => *unit = stated,
+        Some(Line::Descriptor(place, d)) => put_descriptor(unit, place, d),
+        Some(Line::Cycle(c)) => step(out, unit, c)?,
+        None => other(out, line)?,
+    }
+    Ok(())
+}
+
+// What fails is not told: the program ends as ever.
 fn main(rt: HostRuntime) {
-    let mut script = streams::large_buffer();
-    let n = streams::read_full(&mut rt.stdin(), &mut script).count;
-    replay(rt.stdout(), &script[..n]);
+    let mut out = rt.stdout();
+    let mut unit = Unit::power_on();
+    let _ = test_lines::each_line(&mut rt.stdin(), |line| obey(&mut out, &mut unit, line));
 }

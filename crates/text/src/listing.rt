@@ -3,7 +3,7 @@ ghost use Rattle.std.specs.Prelude.{◌≡◌, ◌≤◌, ◌↔◌, IsSome, len
 ghost use Rattle.run.specs.Run.{answers_room};
 ghost use Rattle.text.specs.Listed.{Listed, Counts, text_room};
 
-use crate::lines::{put_head, put_lines, put_refusal};
+use crate::numbers::Line;
 use trace_header::MOST;
 
 // The bytes that any text has room in, 496,012: the longest first line, and the longest line for each record of the longest trace. The
@@ -29,13 +29,13 @@ pub fn list(trace: &[u8], out: &mut [u8]) -> Option<usize>
         return None;
     }
     let mut packed = zeros();
-    let length = match run::run(trace, &mut packed) {
-        Ok(()) => {
-            let count = trace_records::count(trace);
-            let p = put_head(out, count);
-            put_lines(&packed, count, out, p)
-        }
-        Err(refusal) => put_refusal(out, refusal.into()),
-    };
-    Some(length)
+    let mut line = Line { out, at: 0 };
+    if let Err(refusal) = run::run(trace, &mut packed) {
+        line.put_refusal(refusal.into());
+        return Some(line.at);
+    }
+    let count = trace_records::count(trace);
+    line.put_head(count);
+    line.put_lines(&packed, count);
+    Some(line.at)
 }

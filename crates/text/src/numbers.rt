@@ -1,35 +1,68 @@
-// Numbers as text. Each function puts some bytes at an index and answers the index after them.
-ghost use Rattle.std.specs.Prelude.{◌≡◌, ◌+◌, ◌<◌, ◌≤◌, length};
+// Numbers as text, put one after the other into a line.
+ghost use Rattle.std.specs.Prelude.{[], ◌∷◌, ◌≡◌, ◌+◌, ◌<◌, ◌≤◌, length};
 ghost use Rattle.unit_stores.specs.Put.{Put};
 ghost use Rattle.text.specs.Digits.{decimal_room, decimals, place_text, decimal, value, digit, hex_room, hex_text, dashes};
+ghost use Rattle.text.specs.Puts.{HasRoom, Puts};
 
 use unit_stores::put;
 
-// A decimal digit where the number reaches its place.
-fn put_place(out: &mut [u8], at: usize, reached: bool, d: usize) -> usize
-    requires { (at < length out.old) × (d < 10) }
-    ensures put { Put out.old at (place_text reached d) out.new result }
-    ensures upper_bound { result ≤ at + 1 }
-{
-    if reached {
-        return put(out, at, 48 + d as u8);
-    }
-    at
+// A text in the making: the lent buffer that holds it, and the index after what was put.
+#[derive(Drop)]
+pub struct Line<'a> {
+    pub out: &'a mut [u8],
+    pub at: usize,
 }
 
-// A number below 100,000 in decimal, with no zero in front. The digits say the number: those of 100,000 would not.
-#[tactic(auto, unfolding(crate::specs::Digits::decimal))]
-pub fn put_decimal(out: &mut [u8], at: usize, n: usize) -> usize
-    requires { (at + decimal_room ≤ length out.old) × (n < decimals) }
-    ensures put { Put out.old at (decimal n) out.new result }
-    ensures upper_bound { result ≤ at + decimal_room }
-    ensures n_value { value 0 (decimal n) ≡ n }
-{
-    let p4 = put_place(out, at, 10000 <= n, n / 10000 % 10);
-    let p3 = put_place(out, p4, 1000 <= n, n / 1000 % 10);
-    let p2 = put_place(out, p3, 100 <= n, n / 100 % 10);
-    let p1 = put_place(out, p2, 10 <= n, n / 10 % 10);
-    put_place(out, p1, true, n % 10)
+impl Line<'_> {
+    // One byte.
+    pub fn put(&mut self, b: u8)
+        requires { HasRoom self.old 1 }
+        ensures { Puts self.old 1 (b ∷ []) self.new }
+    {
+        self.at = put(self.out, self.at, b);
+    }
+
+    // A decimal digit where the number reaches its place.
+    fn put_place(&mut self, reached: bool, d: usize)
+        requires { HasRoom self.old 1 × (d < 10) }
+        ensures { Puts self.old 1 (place_text reached d) self.new }
+    {
+        if reached {
+            self.put(b'0' + d as u8);
+        }
+    }
+
+    // A number below 100,000 in decimal, with no zero in front. The digits say the number: those of 100,000 would not.
+    #[tactic(auto, unfolding(crate::specs::Digits::decimal))]
+    pub fn put_decimal(&mut self, n: usize)
+        requires { HasRoom self.old decimal_room × (n < decimals) }
+        ensures put { Puts self.old decimal_room (decimal n) self.new }
+        ensures n_value { value 0 (decimal n) ≡ n }
+    {
+        self.put_place(10000 <= n, n / 10000 % 10);
+        self.put_place(1000 <= n, n / 1000 % 10);
+        self.put_place(100 <= n, n / 100 % 10);
+        self.put_place(10 <= n, n / 10 % 10);
+        self.put_place(true, n % 10);
+    }
+
+    // Two capital hexadecimal digits.
+    pub fn put_hex(&mut self, n: u8)
+        requires { HasRoom self.old hex_room }
+        ensures { Puts self.old hex_room (hex_text n) self.new }
+    {
+        self.put(digit(n / 16));
+        self.put(digit(n % 16));
+    }
+
+    // Two dashes.
+    pub fn put_dashes(&mut self)
+        requires { HasRoom self.old hex_room }
+        ensures { Puts self.old hex_room dashes self.new }
+    {
+        self.put(b'-');
+        self.put(b'-');
+    }
 }
 
 // A capital hexadecimal digit.
@@ -38,27 +71,16 @@ fn digit(d: u8) -> u8
     requires { d < 16 }
     ensures { result ≡ digit d }
 {
-    if d < 10 { 48 + d } else { 55 + d }
+    if d < 10 { b'0' + d } else { b'A' - 10 + d }
 }
 
-// Two capital hexadecimal digits.
+// Two capital hexadecimal digits, put at an index of a lent buffer; the answer is the index after them.
 pub fn put_hex(out: &mut [u8], at: usize, n: u8) -> usize
     requires { at + hex_room ≤ length out.old }
     ensures put { Put out.old at (hex_text n) out.new result }
     ensures upper_bound { result ≤ at + hex_room }
 {
-    let high = digit(n / 16);
-    let low = digit(n % 16);
-    let p = put(out, at, high);
-    put(out, p, low)
-}
-
-// Two dashes.
-pub fn put_dashes(out: &mut [u8], at: usize) -> usize
-    requires { at + hex_room ≤ length out.old }
-    ensures put { Put out.old at dashes out.new result }
-    ensures upper_bound { result ≤ at + hex_room }
-{
-    let p = put(out, at, b'-');
-    put(out, p, b'-')
+    let mut line = Line { out, at };
+    line.put_hex(n);
+    line.at
 }

@@ -4,4 +4,6 @@ use Rattle.mmurun.proofs.show.Goals as goal
 
 pub write_text-requires : goal.write_text-requires
 write_text-requires g c =
-    (listed c.args.trace.now c.args.text.now c.list-n.new.out c.list-n.result c.requires c.list-n.ensures.listed c.list-n.ensures.counts.0).0
+    let text = rw (← c.unwrap_or-n.ensures) at c.list.ensures.listed in
+    let counts = rw (← c.unwrap_or-n.ensures) at c.list.ensures.counts in
+    (listed c.args.trace.now c.args.text.now c.list.new.out c.unwrap_or-n.result c.requires text counts.0).0
