@@ -6,9 +6,6 @@ ghost use Rattle.std.proofs.lemmas.List.Edits.{sets};
 ghost use Rattle.unit_stores.specs.Put.{Put};
 ghost use Rattle.unit_stores.specs.Word.{word, high_of, low_of};
 
-// How many values a byte has.
-pub const BYTE_VALUES: u16 = 256;
-
 // The number of two bytes, high byte first.
 pub fn word(high: u8, low: u8) -> u16
     ensures { result ≡ word high low }
