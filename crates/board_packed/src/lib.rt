@@ -3,7 +3,7 @@
 
 ghost use Rattle.std.specs.Prelude.{◌≡◌, ◌+◌, ◌≤◌, length};
 ghost use Rattle.std.proofs.lemmas.List.Edits.{sets};
-ghost use Rattle.board_packed.specs.BoardPacked.{board_width, named_byte, board_packed};
+ghost use Rattle.board_packed.specs.BoardPacked.{board_width, board_packed};
 
 use board_rules::BoardAnswer;
 use unit_stores::store;
@@ -14,13 +14,6 @@ pub const NAMED_AT: usize = unit_packed::BYTES;
 pub const BYTES: usize = NAMED_AT + 1;
 
 pub const NOBODY: u8 = 255;
-
-// The named unit as a byte.
-fn named_byte(n: Option<u8>) -> u8
-    ensures { result ≡ named_byte n }
-{
-    n.unwrap_or(NOBODY)
-}
 
 // An answer's bytes.
 #[tactic(auto, unfolding(crate::specs::BoardPacked::board_packed, unit_packed::specs::Packed::packed))]
@@ -36,7 +29,7 @@ pub fn packed(a: BoardAnswer) -> [u8; BYTES]
         flags,
         byte,
         distance,
-        named_byte(a.named),
+        a.named.unwrap_or(NOBODY),
     ]
 }
 

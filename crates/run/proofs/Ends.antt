@@ -1,4 +1,4 @@
--- The three ends of a run, and what its promise comes to.
+-- What a run's promise comes to, of a trace that is taken and of a buffer with room.
 -- Assumes nothing.
 use mathlib.Core.Path.{◌≡◌, refl, sym, ◌∙◌}
 use mathlib.Core.Bool.{Bool, true, false}
@@ -16,16 +16,11 @@ use Rattle.rules.specs.PowerOn.{power_on}
 use Rattle.rules.specs.Runs.{answers}
 use Rattle.trace_records.specs.Trace.{given_of, cycles_of}
 use Rattle.trace_records.proofs.Within.{all-given}
-use Rattle.run.specs.Run.{answers_room, number_by, buffer_by, trace_refused, narrow, Ran}
+use Rattle.run.specs.Run.{answers_room, buffer_by, trace_refused, narrow, Ran}
 
 -- all records of a trace that is taken lie within it
 pub fits : (t : List ℕ) → refusal_of t ≡ 0 → (given_of t ≤ format1.most) × (length t ≡ record_start format1 (given_of t))
 fits t e = rw (all-given format1 t e) (taken format1 t e)
-
--- what the two tests and the answer come to
-pub run_ends : (t l m : List ℕ) (number : ℕ) (r n : Bool) → trace_refused t ≡ r → narrow t l ≡ n
-    → number ≡ number_by r n (refusal_of t) → m ≡ buffer_by r n t l → Ran t l m number
-run_ends t l m number r n e f says leaves = record { says = rw (e, f) says; leaves = rw (e, f) leaves }
 
 -- a buffer with room for the longest trace: the number is the trace's own, and the answers of a trace that is taken stand in the buffer
 module _ {t l m : List ℕ} {number : ℕ} (ran : Ran t l m number) (long : answers_room ≤ length l) where

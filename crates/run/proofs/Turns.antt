@@ -2,11 +2,13 @@
 -- Assumes nothing.
 use mathlib.Core.Path.{◌≡◌, refl, sym, ap, ◌∙◌}
 use mathlib.Core.List.{List, [], ◌∷◌, ◌++◌}
-use Prim.Native.Nat.{ℕ, zero, suc, ◌+◌, ◌*◌}
+use Prim.Native.Nat.{ℕ, zero, suc, ◌+◌, ◌-◌, ◌*◌, ◌<◌}
 use native.Mathlib.Omega.{arith}
 use native.Mathlib.Numerals.{add-one}
-use lib.ListN.{length, length-append}
-use lib.Seq.{sets}
+use lib.ListN.{length, length-append, get_or, take, drop}
+use lib.Seq.{sets, drop-drop}
+use Rattle.std.proofs.lemmas.List.{take_rest}
+use Rattle.std.specs.Simd.{first_chunks}
 use Rattle.rules.specs.PowerOn.{power_on}
 use Rattle.rules.specs.Runs.{answers, final}
 use Rattle.rules.specs.Step.{changed, place, decision, after}
@@ -15,6 +17,7 @@ use Rattle.rules.specs.declared.Cycle.{Cycle}
 use Rattle.rules.specs.declared.Decision.{Decision}
 use Rattle.rules.specs.declared.Descriptor.{Descriptor}
 use Rattle.rules.specs.declared.Unit.{Unit}
+use Rattle.trace_header.specs.Header.{head_size}
 use Rattle.trace_records.specs.Trace.{record_at, cycle_of, cycles_to}
 use Rattle.unit_stores.proofs.Laws.{sets-append}
 use Rattle.unit_packed.specs.Packed.{width, packed, packed_all}
@@ -50,6 +53,20 @@ unfolding cycles_to
 cycles_length t zero = refl
 cycles_length t (suc n) =
     length-append (cycles_to t n) (cycle_of (record_at t n) ∷ []) ∙ let h : length (cycles_to t n) ≡ n = cycles_length t n in omega (arith, h)
+
+-- ---- record n, among the records as arrays behind the header
+record_among : (d : List ℕ) (n m : ℕ) (xs : List ℕ) → n < m → get_or (first_chunks 4 m xs) n d ≡ take 4 (drop (4 * n) xs)
+record_among d n zero xs l = absurd (omega (arith, l))
+record_among d zero (suc m) xs l = refl
+record_among d (suc n) (suc m) xs l =
+    record_among d n m (drop 4 xs) (omega (arith, l)) ∙ ap (take 4) (drop-drop (4 * n) 4 xs ∙ ap (λ (k : ℕ). drop k xs) (omega arith))
+
+pub record_shown : (t d : List ℕ) (n m : ℕ) → n < m
+    → get_or (first_chunks 4 m (take (length t - head_size) (drop head_size t))) n d ≡ record_at t n
+record_shown t d n m l =
+    ap (λ (xs : List ℕ). get_or (first_chunks 4 m xs) n d) (take_rest t head_size)
+    ∙ record_among d n m (drop head_size t) l
+    ∙ ap (take 4) (drop-drop (4 * n) head_size t)
 
 -- ---- a turn: the unit after n records, and what it decides for record n
 abbrev pub unit_at : List ℕ → ℕ → Unit

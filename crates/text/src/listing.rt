@@ -19,6 +19,7 @@ fn zeros() -> [u8; run::ROOM]
 
 // Fills the buffer with the text of the trace, and answers the text's length. A buffer that is shorter than ROOM is left as it was, and
 // the answer is None.
+// The length, and not that part of the buffer, since `distantarm_list` has to answer it in C.
 pub fn list(trace: &[u8], out: &mut [u8]) -> Option<usize>
     ensures listed { Listed trace.now out.old out.new (unwrap_or result 0) }
     ensures counts { Counts (unwrap_or result 0) out.new }

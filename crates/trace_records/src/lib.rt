@@ -26,6 +26,7 @@ pub const SELECT: u8 = 128;
 pub const RESET: u8 = 128;
 
 // How many records the trace gives: its count, and none where it is refused.
+// 0, and no Result: that a refused trace gives no record is what `given_of` says, and so how often a reader is asked.
 #[tactic(auto, unfolding(crate::specs::Trace::given_in))]
 pub fn count(trace: &[u8]) -> usize
     ensures { result ≡ given_of trace.now }
@@ -49,6 +50,7 @@ pub fn record_refusal(trace: &[u8], n: usize) -> Result<(), Refusal>
 }
 
 // Record n as that part of the trace, and the empty part at the trace's start where it is refused.
+// The empty part, and no Option: `Shows` promises where it lies.
 #[tactic(auto, using(crate::proofs::Within::record_within), unfolding(crate::specs::Trace::part_in, crate::specs::Trace::part_start_in))]
 pub fn part(trace: &[u8], n: usize) -> &[u8]
     ensures { Shows trace.entry n result }

@@ -70,8 +70,9 @@ pub fn record_start(trace: &mut [u8]) -> Result<usize, Refusal>
     Ok(0)
 }
 
-// One cycle more, for a trace of `count` records: its record behind them, the header of one record more, and that count. Where it is refused the
-// buffer is as it was, and the count is still the one given.
+// One cycle more, for a trace of `count` records: its record behind them, and the header of one record more, whose count is the answer. Where it is
+// refused the buffer is as it was.
+// No struct holds the buffer and the count: callers in C keep them apart, and `distantarm_record` hands both over.
 #[tactic(auto, using(crate::proofs::Ends::fits), unfolding(crate::specs::Writing::buffer_after, crate::specs::Writing::count_after))]
 pub fn record_cycle(trace: &mut [u8], count: usize, c: Cycle) -> Result<usize, Refusal>
     ensures { Records c count trace.old trace.new (recorded_by count result) }

@@ -9,9 +9,6 @@ ghost use Rattle.unit_stores.specs.Word.{word, high_of, low_of};
 // How many values a byte has.
 pub const BYTE_VALUES: u16 = 256;
 
-// The number that says that a lent buffer has no room.
-pub const NO_ROOM: u8 = 255;
-
 // The number of two bytes, high byte first.
 pub fn word(high: u8, low: u8) -> u16
     ensures { result ≡ word high low }
@@ -38,6 +35,7 @@ pub fn put(out: &mut [u8], at: usize, b: u8) -> usize
 
 // So many bytes, stored from an index on. Each by itself, since `copy_from_slice` takes `run::run_to` 3 to 5 instructions a record more (1.4 to
 // 2.2 %), and lent, since eight bytes by value take `board_run::run_to` 9 more (1.5 %).
+#[tactic(auto, using(crate::proofs::Stores::one_more_stored))]
 pub fn store<const N: usize>(out: &mut [u8], at: usize, bytes: &[u8; N])
     requires { at + N ≤ length out.old }
     ensures { out.new ≡ sets out.old at bytes.now }
