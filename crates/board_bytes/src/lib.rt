@@ -14,7 +14,8 @@ use board_answers::Joint;
 use board_refusals::Judged;
 use board_rules::{Board, BoardCycle, seen_by};
 use rules::refusal::Refusal;
-use rules::{Cycle, Registers};
+use rules::{Control, Cycle, Registers};
+use rules_registers::with_control;
 use unit_bytes::{in_place, snapshot};
 
 // A SAR that no unit has: with it the registers meet 2.
@@ -28,7 +29,13 @@ fn held_registers(unit: &[u8]) -> Registers
 {
     let r = snapshot::registers_in(unit);
     if snapshot::LAST_NOTES < unit[snapshot::NOTES] {
-        return rules_registers::with_control(r, r.control.mr, NO_SAR, r.control.dscr);
+        return with_control(
+            r,
+            Control {
+                sar: NO_SAR,
+                ..r.control
+            },
+        );
     }
     r
 }
@@ -59,7 +66,10 @@ fn step_all(units: &mut [u8], count: usize, c: BoardCycle) -> Joint
     for i in 0..count {
         let at = snapshot::BYTES * i;
         let select = (c.selects >> i) % 2 == 1;
-        let x = in_place::stepped(&mut units[at..at + snapshot::BYTES], seen_by(c.cycle, select));
+        let x = in_place::stepped(
+            &mut units[at..at + snapshot::BYTES],
+            seen_by(c.cycle, select),
+        );
         joint = board_answers::join(joint, i as u8, x);
     }
     joint

@@ -227,12 +227,7 @@ fn run_to(records: &[u8], count: usize, cycles: usize, out: &mut [u8])
 {
     let u = Unit::power_on();
     let r0 = u.registers;
-    let blank = Descriptor {
-        base: 0,
-        limit: 0,
-        attributes: 0,
-    };
-    let mut tables = [blank; ALL];
+    let mut tables = [Descriptor::BLANK; ALL];
     let mut registers = [r0; Board::UNITS];
     for n in 0..cycles {
         let b = cycle_at(records, RECORD * n);
@@ -313,7 +308,7 @@ pub fn run(records: &[u8], count: u8, out: &mut [u8]) -> usize
     if wrong {
         refuse_to(cycles, out);
     } else {
-        run_to(records, count as usize, cycles, out);
+        run_to(records, usize::from(count), cycles, out);
     }
     cycles
 }
