@@ -33,7 +33,7 @@ pub fn packed(a: BoardAnswer) -> [u8; BYTES]
     ]
 }
 
-// An answer's bytes stored from an index on.
+// An answer's bytes stored from an index on: one line, as `unit_packed::put` is.
 pub fn put(out: &mut [u8], at: usize, a: BoardAnswer)
     requires { at + board_width ≤ length out.old }
     ensures { out.new ≡ sets out.old at (board_packed a) }

@@ -130,7 +130,7 @@ pub fn descriptor_bytes(d: Descriptor) -> [u8; DESCRIPTOR]
     [high, low, d.limit, d.attributes]
 }
 
-// A descriptor's bytes stored from an index on.
+// A descriptor's bytes stored from an index on: one line, as `unit_packed::put` is.
 pub fn put_descriptor(out: &mut [u8], at: usize, d: Descriptor)
     requires { at + descriptor_size ≤ length out.old }
     ensures { out.new ≡ sets out.old at (descriptor_bytes d) }

@@ -65,7 +65,8 @@ pub fn packed(a: Answer) -> [u8; BYTES]
     ]
 }
 
-// An answer's bytes stored from an index on.
+// An answer's bytes stored from an index on: one line for each type, as a trait for all of them
+// would have to stand in `rules`, or wrap them: an impl is of its crate's own trait or type.
 pub fn put(out: &mut [u8], at: usize, a: Answer)
     requires { at + width ≤ length out.old }
     ensures { out.new ≡ sets out.old at (packed a) }
