@@ -24,24 +24,17 @@ pub fn byte_of(d: Descriptor, i: u8) -> u8
 pub fn replaced(d: Descriptor, i: u8, b: u8) -> Descriptor
     ensures { result ≡ replaced d i b }
 {
-    let mut e = d;
     match i {
-        0 => {
-            e.base = b as u16 * 256 + d.base % 256;
-            e
-        }
-        1 => {
-            e.base = d.base / 256 * 256 + b as u16;
-            e
-        }
-        2 => {
-            e.limit = b;
-            e
-        }
-        _ => {
-            e.attributes = b;
-            e
-        }
+        0 => Descriptor {
+            base: u16::from(b) * 256 + d.base % 256,
+            ..d
+        },
+        1 => Descriptor {
+            base: d.base / 256 * 256 + u16::from(b),
+            ..d
+        },
+        2 => Descriptor { limit: b, ..d },
+        _ => Descriptor { attributes: b, ..d },
     }
 }
 

@@ -41,8 +41,12 @@ pub fn register_of(r: Registers, g: Register) -> u8
 pub fn restarted(r: Registers, mr: u8) -> Registers
     ensures { result ≡ restarted r mr }
 {
-    let controlled = with_control(r, mr, r.control.sar, 0);
-    let cleared = with_vtr(controlled, 0);
+    let control = Control {
+        mr,
+        sar: r.control.sar,
+        dscr: 0,
+    };
+    let cleared = with_vtr(with_control(r, control), 0);
     with_notes(cleared, false, false, false, false)
 }
 
@@ -52,12 +56,7 @@ fn programmed(r: Registers, c: Cycle, old: u8, k: Control) -> Decision
     ensures { result ≡ programmed r c old k }
 {
     let next = pick(c.read, r.control, k);
-    replied(
-        c.read,
-        old,
-        with_control(r, next.mr, next.sar, next.dscr),
-        Change::Keep,
-    )
+    replied(c.read, old, with_control(r, next), Change::Keep)
 }
 
 // MR, the whole byte.
@@ -107,7 +106,7 @@ pub fn entry(r: Registers, d: Descriptor, p: Part, c: Cycle) -> Decision
     replied(
         c.read,
         command_descriptors::byte_of(d, i),
-        with_control(r, next.mr, next.sar, next.dscr),
+        with_control(r, next),
         command_descriptors::written_by(c.read, d, i, c.byte),
     )
 }

@@ -1,6 +1,7 @@
 // The C interface: a unit in bytes that the caller keeps, stepped cycle by cycle, a board of 1 to 16 such units, one's bytes behind another's,
 // stepped where they stand, a recorder of cycles in a buffer that the caller keeps, and the text of a whole trace. It keeps no state, and no call
-// asks anything of its caller. `distantarm_c` exports these functions, and `include/distantarm.h` declares them for C.
+// asks anything of its caller. `distantarm_c` exports these functions, and `include/distantarm.h` declares them for C: so a cycle is a row of
+// parameters, a count stands beside its buffer, and a refusal is a number.
 #![tactic(auto)]
 
 ghost use Rattle.text.specs.Listed.{Listed};
@@ -11,7 +12,7 @@ use rules::{Cycle, Unit};
 use unit_bytes::cycle::cycled;
 use unit_bytes::snapshot;
 
-// The unit at power-on: 0, and its bytes at the start of the buffer. A buffer that is too short gives 255 and is left as it was.
+// The unit at power-on: 0, and its bytes at the start of the buffer. A buffer that is too short gives NO_ROOM and is left as it was.
 #[tactic(auto, using(crate::proofs::Ends::powered))]
 pub fn distantarm_power_on(unit: &mut [u8]) -> u8
     ensures { PoweredOn unit.old unit.new result }
@@ -24,7 +25,7 @@ pub fn distantarm_power_on(unit: &mut [u8]) -> u8
 }
 
 // One cycle: the packed answer in the one buffer, the unit after the cycle in the other, and 0 or the number of the refusal. Where a
-// buffer is too short it gives 255, and both are left as they were.
+// buffer is too short it gives NO_ROOM, and both are left as they were.
 #[tactic(auto, using(crate::proofs::Ends::roomy))]
 pub fn distantarm_cycle(
     unit: &mut [u8],
@@ -63,7 +64,7 @@ pub fn distantarm_cycle(
 
 // One cycle of a board of `count` units, for all of them, with a select bit for each, unit 0 in bit 0: the packed answer of the board in the one
 // buffer, the units after the cycle in the other, and 0 or the number of the refusal. A count that is not 1 to 16 gives 11, whatever the
-// units' buffer holds. Where a buffer is too short it gives 255, and both are left as they were.
+// units' buffer holds. Where a buffer is too short it gives NO_ROOM, and both are left as they were.
 pub fn distantarm_board_cycle(
     units: &mut [u8],
     answer: &mut [u8],

@@ -7,6 +7,7 @@ ghost use Rattle.rules.specs.Memory.{aborted, untranslated, checked};
 use rules::{Address, Change, Cycle, Decision, Descriptor, Kind, Registers};
 
 // The aborted fetch: nothing is checked or recorded.
+#[tactic(auto, unfolding(rules::specs::Memory::aborted))]
 pub fn aborted(r: Registers, l: Address) -> Decision
     ensures { result ≡ aborted r l }
 {
@@ -18,6 +19,7 @@ pub fn aborted(r: Registers, l: Address) -> Decision
 }
 
 // A memory cycle that is not translated; `r` are the registers as it begins.
+#[tactic(auto, unfolding(rules::specs::Memory::untranslated))]
 pub fn untranslated(r: Registers, c: Cycle, l: Address, kind: Kind) -> Decision
     ensures { result ≡ untranslated r c l kind }
 {

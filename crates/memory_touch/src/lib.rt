@@ -13,9 +13,8 @@ fn touched(d: Descriptor, c: Cycle) -> Descriptor
     ensures { result ≡ touched d c }
 {
     Descriptor {
-        base: d.base,
-        limit: d.limit,
         attributes: d.attributes | Unit::REF | flag_if(!c.read, Unit::CHG),
+        ..d
     }
 }
 

@@ -40,7 +40,7 @@ pub fn way_of(mr: u8, c: Cycle) -> Way
 pub fn block_of(base: u16, offset: u8) -> u16
     ensures { result ≡ block_of base offset }
 {
-    let nine_bits = base % 256 + offset as u16;
+    let nine_bits = base % 256 + u16::from(offset);
     let low_sum = nine_bits % 256;
     let carry = nine_bits / 256;
     let high_sum = std::num::wrapping_add_u16(base / 256 * 256, carry * 256);
@@ -59,7 +59,7 @@ pub fn address_of(w: Way, base: u16, c: Cycle) -> Address
         },
         Way::Passed => Address {
             driven: true,
-            block: c.segment as u16 * 256 + c.offset as u16,
+            block: u16::from(c.segment) * 256 + u16::from(c.offset),
         },
         Way::Translated => Address {
             driven: true,

@@ -81,7 +81,8 @@ pub struct Cycle {
     pub reset: bool,
 }
 
-// What a cycle was; `Refused` holds the number that says no.
+// What a cycle was; `Refused` holds the number that says no. It is no `refusal::Refusal`: `unit_packed::put` and `rules_answers::{number, refused}`
+// take any number.
 #[derive(Clone, Copy)]
 pub enum Kind {
     Reset,
@@ -94,14 +95,16 @@ pub enum Kind {
     Refused(u8),
 }
 
-// The address, on lines A23 to A8: the number of a block. One that is not driven has the value 0.
+// The address, on lines A23 to A8: the number of a block. One that is not driven has the value 0, as `spoken` of specs/Replies.antt and all
+// theorems on refusals say; so it is no Option.
 #[derive(Clone, Copy)]
 pub struct Address {
     pub driven: bool,
     pub block: u16,
 }
 
-// What the unit drives, and how many blocks a translated cycle is from the edge of its segment. A data byte that is not driven has the value 0.
+// What the unit drives, and how many blocks a translated cycle is from the edge of its segment. A data byte that is not driven has the value 0,
+// as with the address.
 #[derive(Clone, Copy)]
 pub struct Answer {
     pub kind: Kind,
@@ -194,6 +197,14 @@ pub struct Decision {
 pub struct Stepped {
     pub unit: Unit,
     pub answer: Answer,
+}
+
+impl Descriptor {
+    pub const BLANK: Descriptor = Descriptor {
+        base: 0,
+        limit: 0,
+        attributes: 0,
+    };
 }
 
 impl Unit {
@@ -332,12 +343,7 @@ impl Unit {
     pub fn power_on() -> Unit
         ensures { result ≡ power_on }
     {
-        let blank = Descriptor {
-            base: 0,
-            limit: 0,
-            attributes: 0,
-        };
-        let table = [blank; Unit::DESCRIPTORS];
+        let table = [Descriptor::BLANK; Unit::DESCRIPTORS];
         let registers = Registers {
             control: Control {
                 mr: 0,

@@ -8,6 +8,7 @@ ghost use Rattle.rules.specs.Kinds.{letter_of, number_of};
 use rules::{Address, Answer, Change, Decision, Kind, Registers};
 
 // What a memory cycle answers: no data byte.
+#[tactic(auto, unfolding(rules::specs::Replies::seen))]
 pub fn seen(kind: Kind, l: Address, sup: bool, trap: bool, distance: u8) -> Answer
     ensures { result ≡ seen kind l sup trap distance }
 {
@@ -41,6 +42,7 @@ pub fn spoken(kind: Kind, trap: bool, drives: bool, byte: u8) -> Answer
 }
 
 // Nothing driven, SUP off, and the trap line as the request stands.
+#[tactic(auto, unfolding(rules::specs::Replies::plain))]
 pub fn plain(kind: Kind, r: Registers, h: Change) -> Decision
     ensures { result ≡ plain kind r h }
 {
@@ -52,13 +54,15 @@ pub fn plain(kind: Kind, r: Registers, h: Change) -> Decision
 }
 
 // A refusal: all as it was.
+#[tactic(auto, unfolding(rules::specs::Replies::refused))]
 pub fn refused(n: u8, r: Registers) -> Decision
     ensures { result ≡ refused n r }
 {
     plain(Kind::Refused(n), r, Change::Keep)
 }
 
-// The letter that stands for the kind.
+// The letter that stands for the kind. It and the number are functions and not `From<Kind>`: both are a byte of one kind, and a type has one
+// `From` of another.
 pub fn letter(kind: Kind) -> u8
     ensures { result ≡ letter_of kind }
 {

@@ -1,5 +1,6 @@
-// The registers with some of them as said and the rest as it was. They are rebuilt field by field: a group that is copied whole is
-// packed into one word and taken apart again by shifts in the built program.
+// The registers with some of them as said and the rest as it was. They are rebuilt field by field, here and where a first entry or a fetch is
+// stored: `..r` was tried in all three, and a run then takes 1.12 to 1.19 times the witness's instructions in quiet, faults and mixed, and 1.01
+// in commands, where it takes 0.63 to 0.95 so. A group that is copied whole is packed into one word and taken apart again by shifts.
 #![tactic(auto)]
 
 ghost use Rattle.std.specs.Prelude.{◌≡◌};
@@ -12,19 +13,21 @@ use rules::{Control, Faults, Fetched, Notes, Registers};
 // are stored.
 fn with_all(
     r: Registers,
-    mr: u8,
-    sar: u8,
-    dscr: u8,
+    control: Control,
     vtr: u8,
     request: bool,
     awaits: bool,
     own: bool,
     hold: bool,
 ) -> Registers
-    ensures { result ≡ with_notes (with_vtr (with_control r (record { mr = mr; sar = sar; dscr = dscr })) vtr) (notes_of request awaits own hold) }
+    ensures { result ≡ with_notes (with_vtr (with_control r control) vtr) (notes_of request awaits own hold) }
 {
     Registers {
-        control: Control { mr, sar, dscr },
+        control: Control {
+            mr: control.mr,
+            sar: control.sar,
+            dscr: control.dscr,
+        },
         faults: Faults {
             vtr,
             vsn: r.faults.vsn,
@@ -45,21 +48,12 @@ fn with_all(
     }
 }
 
-// Other notes.
+// Other notes. They come one by one: lent as one `Notes`, here and in `with_all`, a run takes 1.01 times the witness's instructions in quiet
+// and 1.04 in faults, where it takes 0.92 and 0.95 so.
 pub fn with_notes(r: Registers, request: bool, awaits: bool, own: bool, hold: bool) -> Registers
     ensures { result ≡ with_notes r (notes_of request awaits own hold) }
 {
-    with_all(
-        r,
-        r.control.mr,
-        r.control.sar,
-        r.control.dscr,
-        r.faults.vtr,
-        request,
-        awaits,
-        own,
-        hold,
-    )
+    with_all(r, r.control, r.faults.vtr, request, awaits, own, hold)
 }
 
 // Another VTR.
@@ -68,9 +62,7 @@ pub fn with_vtr(r: Registers, vtr: u8) -> Registers
 {
     with_all(
         r,
-        r.control.mr,
-        r.control.sar,
-        r.control.dscr,
+        r.control,
         vtr,
         r.notes.request,
         r.notes.awaits,
@@ -80,14 +72,12 @@ pub fn with_vtr(r: Registers, vtr: u8) -> Registers
 }
 
 // Another MR, SAR and DSCR.
-pub fn with_control(r: Registers, mr: u8, sar: u8, dscr: u8) -> Registers
-    ensures { result ≡ with_control r (record { mr = mr; sar = sar; dscr = dscr }) }
+pub fn with_control(r: Registers, control: Control) -> Registers
+    ensures { result ≡ with_control r control }
 {
     with_all(
         r,
-        mr,
-        sar,
-        dscr,
+        control,
         r.faults.vtr,
         r.notes.request,
         r.notes.awaits,

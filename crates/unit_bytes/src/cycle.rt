@@ -7,10 +7,9 @@ ghost use Rattle.unit_bytes.specs.Cycled.{Cycled};
 use crate::snapshot::{LAST_NOTES, NOTES, put_unit, registers_in, unit_in};
 use rules::Cycle;
 use rules::refusal::Refusal;
-use unit_packed::{packed, show};
 use unit_step::step::step;
 
-// One cycle of the unit in the bytes, both buffers having room.
+// One cycle of the unit in the bytes, both buffers having room. A number and no `Result`: `Cycled` says that of the kind, `Refused` with any u8.
 pub fn cycled(unit: &mut [u8], answer: &mut [u8], c: Cycle) -> u8
     requires { (unit_size ≤ length unit.old) × (width ≤ length answer.old) }
     ensures { Cycled false c unit.old answer.old unit.new answer.new result }
@@ -22,5 +21,6 @@ pub fn cycled(unit: &mut [u8], answer: &mut [u8], c: Cycle) -> u8
         put_unit(unit, s.unit);
         s.answer
     };
-    show(answer, &packed(a), a.kind)
+    unit_packed::put(answer, 0, a);
+    rules_answers::number(a.kind)
 }

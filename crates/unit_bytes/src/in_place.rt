@@ -11,7 +11,7 @@ use crate::snapshot::{
 use rules::{Answer, Change, Cycle, Unit};
 use unit_stores::store;
 
-// Flags set in the attributes of every descriptor.
+// Flags set in the attributes of every descriptor. By index, since of what `step_by` and `chunks_exact_mut` leave only the length is known.
 #[tactic(auto, unfolding(crate::specs::InPlace::raised_in))]
 fn raised(unit: &mut [u8], mask: u8)
     requires { unit_size ≤ length unit.old }

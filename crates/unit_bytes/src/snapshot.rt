@@ -69,7 +69,7 @@ pub fn descriptor_in(bytes: &[u8], at: usize) -> Descriptor
     }
 }
 
-// The four notes of their byte.
+// The four notes of their byte. No `From`: `Notes` is of `rules`, and the bits are of this crate.
 #[tactic(auto, unfolding(crate::specs::Snapshot::notes_in))]
 fn notes_in(byte: u8) -> Notes
     ensures { result ≡ notes_in byte }
@@ -82,7 +82,8 @@ fn notes_in(byte: u8) -> Notes
     }
 }
 
-// The registers of a unit's bytes.
+// The registers of a unit's bytes. This and the functions below take a slice and no `&[u8; BYTES]`, which would ask more: the buffers that
+// `distantarm_power_on` and `distantarm_cycle` lend are as long as their callers like, and `PoweredOn` and `Called` speak of every byte of them.
 #[tactic(auto, unfolding(crate::specs::Snapshot::registers_in))]
 pub fn registers_in(bytes: &[u8]) -> Registers
     requires { unit_size ≤ length bytes.now }
@@ -137,7 +138,7 @@ pub fn put_descriptor(out: &mut [u8], at: usize, d: Descriptor)
     store(out, at, &descriptor_bytes(d));
 }
 
-// The notes in a byte.
+// The notes in a byte. No `From`, as above.
 #[tactic(auto, unfolding(crate::specs::Snapshot::notes_byte))]
 fn notes_byte(n: Notes) -> u8
     ensures { result ≡ notes_byte n }

@@ -5,6 +5,7 @@ ghost use Rattle.rules.specs.Refusals.{orphan, damaged, out_of_range};
 use rules::{Cycle, Registers, Unit};
 
 // An orphan: SWW or FATL or both standing without a primary flag.
+#[tactic(auto, unfolding(rules::specs::Refusals::orphan))]
 fn orphan(vtr: u8) -> bool
     ensures { result ≡ orphan vtr }
 {
@@ -12,6 +13,7 @@ fn orphan(vtr: u8) -> bool
 }
 
 // Refusal 2: a register past its numbers, or an orphan in the VTR.
+#[tactic(auto, unfolding(rules::specs::Refusals::damaged))]
 pub fn damaged(r: Registers) -> bool
     ensures { result ≡ damaged r }
 {
@@ -24,6 +26,7 @@ pub fn damaged(r: Registers) -> bool
 }
 
 // Refusal 1: a cycle past its numbers.
+#[tactic(auto, unfolding(rules::specs::Refusals::out_of_range))]
 pub fn out_of_range(c: Cycle) -> bool
     ensures { result ≡ out_of_range c }
 {

@@ -61,6 +61,7 @@ fn acknowledged(r: Registers) -> Decision
 }
 
 // Nothing driven, nothing changed.
+#[tactic(auto, unfolding(rules::specs::Status::ignored))]
 fn ignored(r: Registers) -> Decision
     ensures { result ≡ ignored r }
 {

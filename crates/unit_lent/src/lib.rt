@@ -16,7 +16,7 @@ pub fn step_in_place(u: &mut Unit, c: Cycle) -> Answer
     s.answer
 }
 
-// A unit kept in a local and lent for one cycle. Its parameters are plain, so whoever calls it needs no proof by hand.
+// A unit kept in a local and lent for one cycle: the same for callers that keep a unit by value.
 pub fn step_by_lending(u: Unit, c: Cycle) -> Stepped
     ensures { result ≡ stepped u c }
 {

@@ -3,10 +3,9 @@
 
 ghost use Rattle.std.specs.Prelude.{◌≡◌, ◌+◌, ◌≤◌, length};
 ghost use Rattle.std.proofs.lemmas.List.Edits.{sets};
-ghost use Rattle.rules.specs.Kinds.{number_of};
 ghost use Rattle.unit_packed.specs.Packed.{width, flags_of, packed};
 
-use rules::{Answer, Kind};
+use rules::Answer;
 use rules_flags::flag_if;
 use unit_stores::{store, word_bytes};
 
@@ -38,7 +37,7 @@ pub const TRAP: u8 = 4;
 
 pub const DRIVES: u8 = 8;
 
-// The flags of an answer.
+// The flags of an answer. No `From`: `Answer` is of `rules`, and the masks are of this crate.
 #[tactic(auto, unfolding(crate::specs::Packed::flags_of))]
 fn flags_of(a: Answer) -> u8
     ensures { result ≡ flags_of a }
@@ -72,14 +71,4 @@ pub fn put(out: &mut [u8], at: usize, a: Answer)
     ensures { out.new ≡ sets out.old at (packed a) }
 {
     store(out, at, &packed(a));
-}
-
-// The bytes of an answer of this kind stored at the start of a buffer, and the number of its refusal, or 0.
-pub fn show<const N: usize>(buffer: &mut [u8], bytes: &[u8; N], kind: Kind) -> u8
-    requires { N ≤ length buffer.old }
-    ensures says { result ≡ number_of kind }
-    ensures shows { buffer.new ≡ sets buffer.old 0 bytes.now }
-{
-    store(buffer, 0, bytes);
-    rules_answers::number(kind)
 }

@@ -13,7 +13,7 @@ pub fn step(u: Unit, c: Cycle) -> Stepped
     let r = u.registers;
     let t = u.table;
     let place = unit_decide::place_of(r, c);
-    let i = (place % Unit::SEGMENTS) as usize;
+    let i = usize::from(place % Unit::SEGMENTS);
     let d = t[i];
     let p = unit_decide::act(r, d, c);
     let answer = p.answer;

@@ -9,9 +9,8 @@ pub fn with_flags(d: Descriptor, mask: u8) -> Descriptor
     ensures { result ≡ with_flags mask d }
 {
     Descriptor {
-        base: d.base,
-        limit: d.limit,
         attributes: d.attributes | mask,
+        ..d
     }
 }
 
@@ -24,9 +23,8 @@ pub fn with_flags_in_all(
     ensures { result ≡ map (with_flags mask) t }
 {
     let mut out = t;
-    for i in 0..Unit::DESCRIPTORS {
-        let d = out[i];
-        out[i] = with_flags(d, mask);
+    for d in &mut out {
+        *d = with_flags(*d, mask);
     }
     out
 }
@@ -40,7 +38,7 @@ pub fn changed(
 ) -> [Descriptor; Unit::DESCRIPTORS]
     ensures { result ≡ changed h (place % 64) t }
 {
-    let i = (place % Unit::SEGMENTS) as usize;
+    let i = usize::from(place % Unit::SEGMENTS);
     match h {
         Change::Keep => t,
         Change::Put(d) => {

@@ -2,7 +2,7 @@
 use Rattle.std.specs.Prelude.{List, ◌≡◌, ℕ, ◌+◌, length}
 use Rattle.std.proofs.lemmas.List.Edits.{sets}
 
--- the number that says that a lent buffer has no room; no refusal has it
+-- the number that says that a lent buffer has no room: that of the refusal `NoRoom`, which no cycle is answered with
 abbrev pub NO_ROOM : ℕ
 NO_ROOM = 255
 

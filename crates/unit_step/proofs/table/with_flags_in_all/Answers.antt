@@ -5,7 +5,7 @@ use Rattle.rules.specs.Step.{with_flags}
 use Rattle.unit_step.proofs.Prefix.{up_to_suc}
 use Rattle.unit_step.proofs.table.with_flags_in_all.Goals as goal
 
-pub loop-i-preserved : goal.loop-i-preserved
-loop-i-preserved c =
-    simp (c.with_flags.ensures, c.loop-i.invariant, add-one)
-    (up_to_suc (with_flags c.args.mask) c.loop-i.i c.args.t blank (omega arith))
+pub loop-d-preserved : goal.loop-d-preserved
+loop-d-preserved c =
+    simp (c.with_flags.ensures, c.loop-d.invariant, add-one)
+    (up_to_suc (with_flags c.args.mask) c.loop-d.d-index c.args.t blank (omega arith))

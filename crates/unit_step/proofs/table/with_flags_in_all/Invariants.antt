@@ -4,5 +4,5 @@ use Rattle.rules.specs.Step.{with_flags}
 use Rattle.unit_step.proofs.Prefix.{up_to}
 use Rattle.unit_step.proofs.table.with_flags_in_all.Given as goal
 
-abbrev pub invariant-loop-i : goal.invariant-loop-i
-invariant-loop-i l = l.out ≡ up_to (with_flags l.fn.mask) l.i l.fn.t
+abbrev pub invariant-loop-d : goal.invariant-loop-d
+invariant-loop-d l = l.d-items ≡ up_to (with_flags l.fn.mask) l.d-index l.fn.t
