@@ -20,7 +20,8 @@ pub struct Taken {
 }
 
 // Reads until the buffer is full, the input ends or a read fails: what it put into the buffer are the next bytes of the input, and where no
-// read failed and the buffer is not full, they were the last.
+// read failed and the buffer is not full, they were the last. The count is what it gives, and no method of std fills a lent buffer as far as its
+// input goes and says how far (clauses `bytes` and `end`), so the loop counts.
 pub fn read_full<R: Read>(from: &mut R, buffer: &mut [u8]) -> Taken
     ensures bound { result.count ≤ length buffer.new }
     ensures kept { length buffer.new ≡ length buffer.old }

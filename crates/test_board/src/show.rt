@@ -24,11 +24,11 @@ fn unit<W: Write>(
 ) -> io::Result<()> {
     write!(out, "{i:02X}")?;
     show::registers(out, new)?;
-    for place in 0..Unit::DESCRIPTORS {
-        let at = snapshot::TABLE + snapshot::DESCRIPTOR * place;
-        let end = at + snapshot::DESCRIPTOR;
-        if old[at..end] != new[at..end] {
-            show::descriptor(out, place as u8, snapshot::descriptor_in(new, at))?;
+    let old_table = old[snapshot::TABLE..snapshot::LOW].chunks_exact(snapshot::DESCRIPTOR);
+    let new_table = new[snapshot::TABLE..snapshot::LOW].chunks_exact(snapshot::DESCRIPTOR);
+    for (place, (old, new)) in (0..Unit::SEGMENTS).zip(old_table.zip(new_table)) {
+        if old != new {
+            show::descriptor(out, place, snapshot::descriptor_in(new, 0))?;
         }
     }
     writeln!(out)

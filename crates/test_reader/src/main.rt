@@ -29,7 +29,8 @@ fn head<W: Write>(out: &mut W, trace: &[u8]) -> io::Result<()> {
 
 // The line of record n.
 fn line<W: Write>(out: &mut W, n: usize, a: Answer) -> io::Result<()> {
-    write!(out, "{n} ")?;
+    streams::print_decimal(out, n as u64)?;
+    write!(out, " ")?;
     show::answer(out, &unit_packed::packed(a))?;
     writeln!(out)
 }

@@ -42,9 +42,8 @@ impl Line<'_> {
         requires { (width * count ≤ length packed.now) × HasRoom self.old (line_room * count) × (count ≤ decimals) }
         ensures { Puts self.old (line_room * count) (lines_of 0 count packed.now) self.new }
     {
-        for n in 0..count {
-            let from = unit_packed::BYTES * n;
-            self.put_line(n, &packed[from..from + unit_packed::BYTES]);
+        for (n, answer) in packed.chunks(unit_packed::BYTES).enumerate().take(count) {
+            self.put_line(n, answer);
         }
     }
 

@@ -32,7 +32,8 @@ impl Line<'_> {
         }
     }
 
-    // A number below 100,000 in decimal, with no zero in front. The digits say the number: those of 100,000 would not.
+    // A number below 100,000 in decimal, with no zero in front. The digits say the number: those of 100,000 would not. They are not core::fmt's:
+    // what that promises of the bytes holds where it answers Ok, and `listing::list` promises its text on every trace (clause `listed`).
     #[tactic(auto, unfolding(crate::specs::Digits::decimal))]
     pub fn put_decimal(&mut self, n: usize)
         requires { HasRoom self.old decimal_room × (n < decimals) }
@@ -74,7 +75,8 @@ fn digit(d: u8) -> u8
     if d < 10 { b'0' + d } else { b'A' - 10 + d }
 }
 
-// Two capital hexadecimal digits, put at an index of a lent buffer; the answer is the index after them.
+// Two capital hexadecimal digits, put at an index of a lent buffer; the answer is the index after them. docs/LIBRARY.md names it as something to
+// use, so that it stays beside the method.
 pub fn put_hex(out: &mut [u8], at: usize, n: u8) -> usize
     requires { at + hex_room ≤ length out.old }
     ensures put { Put out.old at (hex_text n) out.new result }

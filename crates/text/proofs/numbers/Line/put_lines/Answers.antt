@@ -1,30 +1,36 @@
--- What is left to put, at the start, after a turn and at the end. Assumes nothing.
-use Rattle.std.proofs.Common.{◌*◌, arith, refl, ◌∙◌}
-use native.Mathlib.Nat.{add-sub_cancel_left}
+-- What is left to put after a turn and at the end. Assumes nothing.
+use Rattle.std.proofs.Common.{◌≡◌, ◌∙◌, length, arith, rules}
 use Rattle.unit_packed.specs.Packed.{width}
-use Rattle.unit_stores.proofs.Laws.{before-all, after-all}
-use Rattle.text.specs.Lines.{lines_of}
-use Rattle.text.proofs.Turns.{from_start, from_end, turn}
+use Rattle.unit_stores.proofs.Laws.{after-all}
+use Rattle.text.proofs.Turns.{turn, enough_left, at_end}
 use Rattle.text.proofs.numbers.Line.put_lines.Goals as goal
-
-pub loop-n-init : goal.loop-n-init
-loop-n-init c =
-    let packed = c.args.packed.now in
-    (omega arith, refl, refl, rw (from_start packed c.args.count) (before-all c.args.self.now.out.now c.args.self.now.at (lines_of 0 c.args.count packed)))
 
 pub loop-n-preserved : goal.loop-n-preserved
 loop-n-preserved c =
-    let line = rw (add-sub_cancel_left (width * c.loop-n.n) width) at c.put_line.ensures.put in (
-      omega (arith, c.put_line.ensures.within),
-      c.put_line.ensures.long ∙ c.loop-n.invariant.1,
-      c.put_line.ensures.same ∙ c.loop-n.invariant.2,
-      turn c.args.packed.now c.args.count c.loop-n.n c.loop-n-test.true c.loop-n.invariant.3 line,
+    let before = c.loop-n.invariant in
+    let taken = c.in-Some.ensures.steps in
+    let counted = taken.0 in
+    let cut = counted.0 in
+    let size : length c.in-Some.answer.now ≡ width = search rules in
+    let line = rw (counted.1) at c.put_line.ensures.put in
+    let left = turn c.loop-n.n-iterator.iter.count _ _ _ _ _ taken.1 cut.1.0 size before.6 line in (
+      cut.0 ∙ before.0,
+      omega (arith, before.1, counted.2, taken.1),
+      enough_left c.loop-n.n-iterator.iter.count _ _ _ _ _ taken.1 cut.1.0 size before.2,
+      omega (arith, before.3, c.put_line.ensures.within, taken.1),
+      c.put_line.ensures.long ∙ before.4,
+      c.put_line.ensures.same ∙ before.5,
+      rw (counted.2) left,
     )
 
 pub returns : goal.returns
-returns c = record {
-  put = after-all (rw (from_end c.args.packed.now c.args.count c.loop-n.n c.loop-n-test.false) at c.loop-n.invariant.3);
-  within = omega arith;
-  long = c.loop-n.invariant.1;
-  same = c.loop-n.invariant.2;
-}
+returns c =
+    let before = c.loop-n.invariant in
+    let rest = c.loop-n.n-iterator in
+    let none = at_end rest.iter.count rest.n rest.iter.iter.rest.now before.2 (λ more. (c.in-None.ensures.steps more).0.1.0) in
+    record {
+      put = after-all (rw none at before.6);
+      within = omega (arith, before.3);
+      long = before.4;
+      same = before.5;
+    }
