@@ -1,8 +1,8 @@
 // The lines of a script: whether one is of a form, and what its numbers say.
-ghost use Rattle.std.specs.Prelude.{◌<◌, IfSome, length};
-ghost use Rattle.unit_bytes.specs.Snapshot.{table_at};
+ghost use Rattle.std.specs.Prelude.{◌<◌, IfSome};
 
 use rules::{Cycle, Descriptor};
+use trace_header::byte_at;
 use unit_bytes::snapshot;
 
 // The value of a hexadecimal digit.
@@ -42,12 +42,12 @@ pub fn numbers<const N: usize>(line: &[u8], form: &[u8]) -> Option<[u8; N]> {
 }
 
 // The bytes of the unit that the numbers of a `U` line say, with a table of zeros: they are the first of these, and the last.
-pub fn unit_in(numbers: &[u8]) -> [u8; snapshot::BYTES]
-    requires { table_at < length numbers.now }
-{
+pub fn unit_in(numbers: &[u8]) -> [u8; snapshot::BYTES] {
     let mut bytes = [0; snapshot::BYTES];
-    bytes[..snapshot::TABLE].copy_from_slice(&numbers[..snapshot::TABLE]);
-    bytes[snapshot::LOW] = numbers[snapshot::TABLE];
+    for (byte, number) in bytes[..snapshot::TABLE].iter_mut().zip(numbers) {
+        *byte = *number;
+    }
+    bytes[snapshot::LOW] = byte_at(numbers, snapshot::TABLE);
     bytes
 }
 

@@ -1,13 +1,13 @@
 // What the programs write. A write that fails ends the line, and the program.
 ghost use Rattle.std.specs.Prelude.{◌≤◌, length};
 ghost use Rattle.unit_packed.specs.Packed.{width};
-ghost use Rattle.unit_bytes.specs.Snapshot.{unit_size};
 
 use rules::Descriptor;
 use std::io;
 use std::io::Write;
 use text::lines::LINE;
 use text::numbers::Line;
+use trace_header::byte_at;
 use unit_bytes::snapshot;
 
 // A line that asks for nothing: an empty one and one that starts with `#` as it is, and `?` for any other.
@@ -39,14 +39,12 @@ pub fn answer<W: Write>(out: &mut W, packed: &[u8]) -> io::Result<()>
 }
 
 // A unit's bytes but for the descriptors', in the order of a `U` line.
-pub fn registers<W: Write>(out: &mut W, unit: &[u8]) -> io::Result<()>
-    requires { unit_size ≤ length unit.now }
-{
+pub fn registers<W: Write>(out: &mut W, unit: &[u8]) -> io::Result<()> {
     write!(out, " |")?;
-    for byte in &unit[..snapshot::TABLE] {
-        write!(out, " {byte:02X}")?;
+    for at in (0..snapshot::TABLE).chain([snapshot::LOW]) {
+        write!(out, " {:02X}", byte_at(unit, at))?;
     }
-    write!(out, " {:02X}", unit[snapshot::LOW])
+    Ok(())
 }
 
 // A descriptor's place and its numbers, in the order of a `D` line.

@@ -48,8 +48,7 @@ pub fn shown<'a>(r: Reader<'a>) -> &'a [u8]
     part(r.trace, r.next)
 }
 
-// A reader of the trace, put to number n and asked once: what it gives, and its number after, at which it can be taken up again. Its
-// parameters are plain, so whoever calls it needs no proof by hand.
+// A reader of the trace, put to number n and asked once: what it gives, and its number after, at which it can be taken up again.
 pub fn read_at(trace: &[u8], n: usize) -> Found
     ensures { Finds trace.now n result }
 {
