@@ -40,7 +40,8 @@ fn held_registers(unit: &[u8]) -> Registers
     r
 }
 
-// The first `count` units, judged.
+// The first `count` units, judged. `board_step` has this loop and the next one by value; they are no generic one, which is no plainer: a trait of
+// both would have two views of a unit, since strange notes are judged as `held_in` and stepped as `unit_in`, and `Boarded` tells every byte.
 fn judge_all(units: &[u8], count: usize, c: BoardCycle) -> Judged
     requires { (count ≤ 16) × (unit_size * count ≤ length units.now) }
     ensures { Known result c.cycle (seats_in units.now count c.selects) }

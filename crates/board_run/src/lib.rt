@@ -72,7 +72,8 @@ fn cycle_at(records: &[u8], at: usize) -> BoardCycle
     }
 }
 
-// Flags set in every descriptor of unit i.
+// Flags set in every descriptor of unit i. `unit_step::table::with_flags_in_all` takes a table of its own; here the tables of all units are one
+// array beside the registers that are scanned: docs/PERFORMANCE.md has 1,330 instructions a cycle of 16 units, and 3,531 with units in bytes.
 fn raised(tables: [Descriptor; ALL], i: usize, mask: u8) -> [Descriptor; ALL]
     requires { i + 1 ≤ 16 }
     ensures { RaisedIn mask i tables result }
