@@ -102,7 +102,14 @@ pub fn told(t: Joint, c: Cycle, command: bool) -> BoardAnswer
     let acknowledge = !c.reset & (c.status == Unit::ACKNOWLEDGE) & !c.dma;
     let (kind, address, distance) = match t.driver {
         Some(d) => (d.kind, d.address, d.distance),
-        None => (pick(t.aborted, Kind::Aborted, Kind::Ignored), Address { driven: false, block: 0 }, 0),
+        None => (
+            pick(t.aborted, Kind::Aborted, Kind::Ignored),
+            Address {
+                driven: false,
+                block: 0,
+            },
+            0,
+        ),
     };
     BoardAnswer {
         answer: Answer {

@@ -14,7 +14,8 @@ use board_answers::Joint;
 use board_refusals::Judged;
 use board_rules::{Board, BoardCycle, seen_by};
 use rules::refusal::Refusal;
-use rules::{Cycle, Registers};
+use rules::{Control, Cycle, Registers};
+use rules_registers::with_control;
 use unit_bytes::{in_place, snapshot};
 
 // A SAR that no unit has: with it the registers meet 2.
@@ -28,12 +29,19 @@ fn held_registers(unit: &[u8]) -> Registers
 {
     let r = snapshot::registers_in(unit);
     if snapshot::LAST_NOTES < unit[snapshot::NOTES] {
-        return rules_registers::with_control(r, r.control.mr, NO_SAR, r.control.dscr);
+        return with_control(
+            r,
+            Control {
+                sar: NO_SAR,
+                ..r.control
+            },
+        );
     }
     r
 }
 
-// The first `count` units, judged.
+// The first `count` units, judged. `board_step` has this loop and the next one by value; they are no generic one, which is no plainer: a trait of
+// both would have two views of a unit, since strange notes are judged as `held_in` and stepped as `unit_in`, and `Boarded` tells every byte.
 fn judge_all(units: &[u8], count: usize, c: BoardCycle) -> Judged
     requires { (count ≤ 16) × (unit_size * count ≤ length units.now) }
     ensures { Known result c.cycle (seats_in units.now count c.selects) }
@@ -59,7 +67,10 @@ fn step_all(units: &mut [u8], count: usize, c: BoardCycle) -> Joint
     for i in 0..count {
         let at = snapshot::BYTES * i;
         let select = (c.selects >> i) % 2 == 1;
-        let x = in_place::stepped(&mut units[at..at + snapshot::BYTES], seen_by(c.cycle, select));
+        let x = in_place::stepped(
+            &mut units[at..at + snapshot::BYTES],
+            seen_by(c.cycle, select),
+        );
         joint = board_answers::join(joint, i as u8, x);
     }
     joint

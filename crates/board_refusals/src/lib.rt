@@ -111,7 +111,10 @@ pub fn unjudged() -> Judged
 pub fn judge(j: Judged, i: u8, r: Registers, select: bool, c: Cycle, q: Asked) -> Judged
     ensures { result ≡ judging j i r select c q }
 {
-    let own = own_refusal(r, select, q).map(|refusal| Verdict { refusal, named: Some(i) });
+    let own = own_refusal(r, select, q).map(|refusal| Verdict {
+        refusal,
+        named: Some(i),
+    });
     let drives = q.memory & may_drive(r.control.mr, c);
     let command = q.command & select;
     Judged {
@@ -132,9 +135,15 @@ pub fn refuses(j: Judged, read: bool) -> Option<Verdict>
         return j.own;
     }
     if j.clash {
-        return Some(Verdict { refusal: Refusal::TwoDrive, named: None });
+        return Some(Verdict {
+            refusal: Refusal::TwoDrive,
+            named: None,
+        });
     }
-    (read & j.several).then_some(Verdict { refusal: Refusal::SeveralRead, named: None })
+    (read & j.several).then_some(Verdict {
+        refusal: Refusal::SeveralRead,
+        named: None,
+    })
 }
 
 // A refusal's answer: nothing driven, SUP off. It takes any number, as it always did: a type that has only some would ask more of its callers.

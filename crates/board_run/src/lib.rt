@@ -72,7 +72,8 @@ fn cycle_at(records: &[u8], at: usize) -> BoardCycle
     }
 }
 
-// Flags set in every descriptor of unit i.
+// Flags set in every descriptor of unit i. `unit_step::table::with_flags_in_all` takes a table of its own; here the tables of all units are one
+// array beside the registers that are scanned: docs/PERFORMANCE.md has 1,330 instructions a cycle of 16 units, and 3,531 with units in bytes.
 fn raised(tables: [Descriptor; ALL], i: usize, mask: u8) -> [Descriptor; ALL]
     requires { i + 1 ≤ 16 }
     ensures { RaisedIn mask i tables result }
@@ -227,12 +228,7 @@ fn run_to(records: &[u8], count: usize, cycles: usize, out: &mut [u8])
 {
     let u = Unit::power_on();
     let r0 = u.registers;
-    let blank = Descriptor {
-        base: 0,
-        limit: 0,
-        attributes: 0,
-    };
-    let mut tables = [blank; ALL];
+    let mut tables = [Descriptor::BLANK; ALL];
     let mut registers = [r0; Board::UNITS];
     for n in 0..cycles {
         let b = cycle_at(records, RECORD * n);
@@ -313,7 +309,7 @@ pub fn run(records: &[u8], count: u8, out: &mut [u8]) -> usize
     if wrong {
         refuse_to(cycles, out);
     } else {
-        run_to(records, count as usize, cycles, out);
+        run_to(records, usize::from(count), cycles, out);
     }
     cycles
 }

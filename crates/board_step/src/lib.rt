@@ -53,7 +53,7 @@ pub fn step_board(b: Board, c: BoardCycle) -> BoardStepped
         let answer = board_refusals::refused(Refusal::WrongCount.into(), None, false);
         return BoardStepped { board: b, answer };
     }
-    let count = b.count as usize;
+    let count = usize::from(b.count);
     let j = judge_all(&b.units[..count], c);
     if let Some(v) = board_refusals::refuses(j, c.cycle.read) {
         let answer = board_refusals::refused(v.refusal.into(), v.named, j.stood);

@@ -163,12 +163,12 @@ handed_board c =
     let b : Cycle = c.cycle in
     (b.status, (b.read, (b.normal, (b.dma, (b.segment, (b.offset, (b.low, (b.byte, (b.reset, (c.selects, tt))))))))))
 
-pub distantarm_board_cycle_agrees : (κs : Lfts 2) (u v : MutBor (List ℕ)) (count : ℕ) (c : BoardCycle) (x y : ℕ)
+pub distantarm_board_cycle_agrees : (κs : Lfts 2) (u v : MutBor (List ℕ)) (count : ℕ) (c : BoardCycle) (x : Result (Unit {0}) Refusal) (y : ℕ)
     (e : AtExit (ended_of 2 cycle-k.ps cycle-k.r) κs) (f : AtExit (ended_of 2 distantarm-board-cycle-k.ps distantarm-board-cycle-k.r) κs)
     → c.cycle.select ≡ false
     → cycle.Learnt κs (u, (v, (count, (c.cycle, (c.selects, tt))))) x e
     → distantarm-board-cycle.Learnt κs (u, (v, (count, handed_board c))) y f
-    → (x ≡ y) × (e.0.now ≡ f.0.now) × (e.1.0.now ≡ f.1.0.now)
+    → (number_of_outcome x ≡ y) × (e.0.now ≡ f.0.now) × (e.1.0.now ≡ f.1.0.now)
 distantarm_board_cycle_agrees κs u v count c x y e f off p q =
     let b : Cycle = c.cycle in
     let short : Bool = no_room u.now v.now count in

@@ -168,4 +168,6 @@ record_cycle_only κs a b x y e f s p q =
 pub cycle_only : Two 2 cycle-k.ps cycle-k.r cycle.Learnt
     (λ κs a b. (a.0.now ≡ b.0.now) × (a.1.0.now ≡ b.1.0.now) × (a.1.1 ≡ b.1.1))
     (λ κs a b x y e f. (x ≡ y) × (e.0.now ≡ f.0.now) × (e.1.0.now ≡ f.1.0.now))
-cycle_only κs a b x y e f s p q = (cc, cc, cc)
+cycle_only κs a b x y e f s p q =
+    let number : number_of_outcome x ≡ number_of_outcome y = cc in
+    (outcome_by_number x y number, cc, cc)

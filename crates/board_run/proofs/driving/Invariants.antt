@@ -7,6 +7,3 @@ abbrev pub invariant-loop-k : goal.invariant-loop-k
 invariant-loop-k l =
     (l.k ≤ l.fn.count) × (l.mask < 2 ^ (16 - l.k))
     × DrivingFrom l.fn.registers l.k (l.fn.count - l.k) l.fn.c l.mask l.drives l.clash
-
-abbrev pub decreases-loop-k : goal.decreases-loop-k
-decreases-loop-k l = l.k
