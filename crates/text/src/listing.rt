@@ -10,7 +10,7 @@ use trace_header::MOST;
 // longest text is that of two commands and 15,998 cycles 100 blocks or more from the edge of their segment, 372,898 bytes.
 pub const ROOM: usize = crate::lines::HEAD + crate::lines::LINE * MOST;
 
-// Zeros, with room for the answers of the longest trace. Its length is all that matters.
+// Zeros, with room for the answers of the longest trace. They have a function of their own, since the proof of `list` wants their length alone.
 fn zeros() -> [u8; run::ROOM]
     ensures { answers_room ≡ length result }
 {
