@@ -1,5 +1,5 @@
 -- What is kept of the answers of a board's units while they are joined one after another, and what the answers of all come to.
-use Rattle.std.specs.Prelude.{Bool, false, cond, ◌&&◌, ◌||◌, List, [], ◌∷◌, ℕ, suc, Some, None, option_map}
+use Rattle.std.specs.Prelude.{Bool, false, cond, ◌||◌, List, [], ◌∷◌, ℕ, suc, Some, None, option_map}
 use Rattle.std.specs.Prelude.{Option as Optional}
 use Rattle.std.specs.Option.{option_or}
 use Rattle.std.specs.Int.Bits.{bit_or}

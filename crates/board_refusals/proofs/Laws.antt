@@ -22,7 +22,7 @@ use Rattle.rules.specs.declared.refusal.Refusal.{Refusal as Reason}
 use Rattle.rules.specs.declared.refusal.Refusal.TheVariants.{OutOfRange, Damaged, NoTrace, OtherVersion, TooMany, WrongLength, PastTheCount}
 use Rattle.rules.specs.declared.refusal.Refusal.TheVariants.{WrongWay, NoRoomToRecord, WrongCount, TwoDrive, SeveralRead, NoRoom}
 use Rattle.rules.specs.declared.refusal.Refusal.TheVariants as reason
-use Rattle.board_rules.specs.Board.{Seat, seen_by, Refusal, nobodys, some_of, two_of, requests, verdict}
+use Rattle.board_rules.specs.Board.{Seat, seen_by, Refusal, some_of, two_of, requests, verdict}
 use Rattle.theorems_runs.specs.Cycles.{memory_cycle, listed, read_only}
 use Rattle.theorems_runs.specs.Refusal.{earliest}
 use Rattle.theorems_runs.proofs.Codes.{is_show, is_act, is_listed, show-codes, act-codes, listed-codes}

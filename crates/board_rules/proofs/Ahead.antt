@@ -7,7 +7,7 @@ use native.Mathlib.Nat.{le_of_suc-le-suc, not-suc-le-zero, div-div-eq-div-mul, p
 use native.Mathlib.Numerals.{add-one, unary_clauses}
 use native.Mathlib.Omega.{arith}
 use lib.Dec.{eqb}
-use lib.ListN.{length, get_or, take, drop, set, length-take, take-append-drop}
+use lib.ListN.{length, get_or, take, drop, set, length-take}
 use lib.Seq.{drop-cons, get_or-take, take-suc-set, get_or-drop, drop-drop, drop-set-lt}
 use Rattle.rules.specs.declared.Unit.{Unit}
 use Rattle.board_rules.specs.Board.{Seat, seated}

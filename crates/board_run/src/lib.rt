@@ -240,13 +240,11 @@ fn run_to(records: &[u8], count: usize, cycles: usize, out: &mut [u8])
             board_packed::put(out, board_packed::BYTES * n, a);
         } else {
             let mut joint = board_answers::nothing();
-            let mut left = b.selects;
-            let mut mask = p.mask;
+            let selects = b.selects;
+            let mask = p.mask;
             for i in 0..count {
-                let select = left % 2 == 1;
-                let on = mask % 2 == 1;
-                left = left / 2;
-                mask = mask / 2;
+                let select = (selects >> i) % 2 == 1;
+                let on = (mask >> i) % 2 == 1;
                 let r = registers[i];
                 if on {
                     let seen = seen_by(c, select);

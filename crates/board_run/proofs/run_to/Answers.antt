@@ -1,7 +1,8 @@
 -- The two loops of `run_to`: the run begins, a turn begins, a unit more is stepped, and the turn ends. Assumes nothing.
 use mathlib.Core.Path.{◌≡◌, refl, sym, ap, ◌∙◌, subst}
 use mathlib.Core.Bool.{Bool, false}
-use Rattle.std.proofs.Common.{ℕ, ◌+◌, ◌*◌, ◌/◌, ◌%◌, ◌<◌, ◌≤◌, List, length, arith}
+use Rattle.std.proofs.Common.{ℕ, ◌+◌, ◌*◌, ◌/◌, ◌%◌, ◌^◌, ◌<◌, ◌≤◌, List, length, arith}
+use native.Mathlib.Nat.{div-one}
 use lib.Dec.{eqb}
 use lib.ListN.{get_or, set, length-set}
 use borrow.Author.Tests.{ne_eqb}
@@ -20,6 +21,7 @@ use Rattle.theorems_runs.specs.Undamaged.{Undamaged}
 use Rattle.board_rules.specs.Board.{Refusal, seated, seen_by, refusing, board_answers, board_final}
 use Rattle.board_rules.specs.declared.Board.{Board}
 use Rattle.board_rules.specs.declared.BoardCycle.{BoardCycle}
+use Rattle.board_rules.proofs.Ahead.{select_next}
 use Rattle.theorems_boards.specs.Seats.{live}
 use Rattle.theorems_boards.proofs.Units.{board_from_power_on}
 use Rattle.board_refusals.specs.Judged.{refuses, refusal_in, by_number, given}
@@ -83,7 +85,7 @@ loop-i-init c =
     let accepts = accepted_by (refuses j b.cycle.read) (refusal_in j) (sym (ap given c.in_default.is) ∙ c.refuses.ensures) in (
       l.invariant.0,
       l.invariant.1,
-      rw c.nothing-joint.ensures
+      rw (c.nothing-joint.ensures, div-one b.selects, div-one c.plan-p.result.mask)
           (stepping_begins l.registers l.tables n b.selects b.cycle c.plan-p.result.mask plan.off
           (accepted_board l.registers l.tables n b c.requires.0 c.requires.1 j plan.known accepts)),
     )
@@ -96,7 +98,7 @@ act-p-requires c =
     let b : BoardCycle = c.cycle_at-b.result in
     let n : ℕ = c.args.count in
     let h =
-    admitted_now (units_of first.registers first.tables n) n b.selects b.cycle l.registers l.tables l.joint l.i l.left l.mask l.invariant.2
+    admitted_now (units_of first.registers first.tables n) n b.selects b.cycle l.registers l.tables l.joint l.i (b.selects / 2 ^ l.i) (c.plan-p.result.mask / 2 ^ l.i) l.invariant.2
     c.loop-i-test.true (units-length first.registers first.tables n) in
     (h.0, ap out_of_range c.seen_by-seen.ensures ∙ h.1)
 
@@ -111,27 +113,27 @@ loop-i-preserved c =
     let here : l.i < n = c.loop-i-test.true in
     let long : length us ≡ n = units-length first.registers first.tables n in
     let place : (k : ℕ) → k % 64 < 64 = λ k. omega arith in
-    let one = stepped-one us n b.selects b.cycle l.registers l.tables l.joint l.i l.left l.mask l.invariant here c.requires.1 long in
+    let one = stepped-one us n b.selects b.cycle l.registers l.tables l.joint l.i (b.selects / 2 ^ l.i) (c.plan-p.result.mask / 2 ^ l.i) l.invariant here c.requires.1 long in
     elim c.if-on.branch [
       | then-on+in-Keep w ↦
-          rw (w.tables-is, w.registers-is, w.joint-is)
+          rw (w.tables-is, w.registers-is, ← select_next l.i b.selects, ← select_next l.i c.plan-p.result.mask, w.joint-is)
           (one w.seen_by-seen.result w.place_of.result w.act-p.result w.join-joint.result Keep l.tables
           w.seen_by-seen.ensures w.place_of.ensures w.act-p.ensures w.join-joint.ensures w.in-Keep.is (kept-changed l.tables l.i))
       | then-on+in-Put w ↦
-          rw (w.tables-is, w.registers-is, w.joint-is)
+          rw (w.tables-is, w.registers-is, ← select_next l.i b.selects, ← select_next l.i c.plan-p.result.mask, w.joint-is)
           (one w.seen_by-seen.result w.place_of.result w.act-p.result w.join-joint.result (Put w.in-Put.e) _
           w.seen_by-seen.ensures w.place_of.ensures w.act-p.ensures w.join-joint.ensures w.in-Put.is
           (stored_changed l.tables l.i (w.place_of.result % 64) w.in-Put.e (place w.place_of.result)))
       | then-on+in-Raise w ↦
-          rw (w.tables-is, w.registers-is, w.joint-is)
+          rw (w.tables-is, w.registers-is, ← select_next l.i b.selects, ← select_next l.i c.plan-p.result.mask, w.joint-is)
           (one w.seen_by-seen.result w.place_of.result w.act-p.result w.join-joint.result (Raise w.in-Raise.flags) w.raised-tables.result
           w.seen_by-seen.ensures w.place_of.ensures w.act-p.ensures w.join-joint.ensures w.in-Raise.is w.raised-tables.ensures)
       | else-on w ↦
-          rw (w.tables-is, w.registers-is, w.joint-is, w.pass_by-joint.ensures) (
+          rw (w.tables-is, w.registers-is, ← select_next l.i b.selects, ← select_next l.i c.plan-p.result.mask, w.joint-is, w.pass_by-joint.ensures) (
             l.invariant.0,
             l.invariant.1,
-            turn_off us n b.selects b.cycle l.registers l.tables l.joint l.i l.left l.mask l.invariant.2 here long
-                (ne_eqb (l.mask % 2) 1 w.if-on.false),
+            turn_off us n b.selects b.cycle l.registers l.tables l.joint l.i (b.selects / 2 ^ l.i) (c.plan-p.result.mask / 2 ^ l.i) l.invariant.2 here long
+                (ne_eqb (c.plan-p.result.mask / 2 ^ l.i % 2) 1 w.if-on.false),
           )
     ]
 
@@ -163,7 +165,7 @@ loop-n-preserved c =
           let us : List Unit = units_of l.registers l.tables n in
           let accepts = accepted_by (refuses j b.cycle.read) (refusal_in j) (sym (ap given w.in_default.is) ∙ c.refuses.ensures) in
           let stepped =
-          stepping_ends us n b.selects b.cycle last.registers last.tables last.joint last.i last.left last.mask last.invariant.2
+          stepping_ends us n b.selects b.cycle last.registers last.tables last.joint last.i (b.selects / 2 ^ last.i) (c.plan-p.result.mask / 2 ^ last.i) last.invariant.2
           (omega (arith, w.loop-i-test.false)) (units-all l.registers l.tables n) in
           let ends =
           stepped_board l.registers l.tables n b c.requires.0 c.requires.1 j plan.known accepts

@@ -1,5 +1,5 @@
 -- The arrays hold the board after n records, and within a turn the first i units are stepped.
-use Rattle.std.proofs.Common.{◌≡◌, length}
+use Rattle.std.proofs.Common.{◌≡◌, ◌/◌, ◌^◌, length}
 use Rattle.board_run.specs.BoardRun.{board_ran_to}
 use Rattle.board_run.specs.Plan.{units_of}
 use Rattle.board_run.proofs.Boards.{board_of}
@@ -16,4 +16,5 @@ invariant-loop-n l =
 abbrev pub invariant-loop-i : goal.invariant-loop-i
 invariant-loop-i l =
     (length l.registers ≡ 16) × (length l.tables ≡ 1024)
-    × Stepping (units_of l.initial.registers l.initial.tables l.fn.count) l.fn.count l.initial.left l.c l.registers l.tables l.joint l.i l.left l.mask
+    × Stepping (units_of l.initial.registers l.initial.tables l.fn.count) l.fn.count l.selects l.c l.registers l.tables l.joint l.i
+    (l.selects / 2 ^ l.i) (l.mask / 2 ^ l.i)
