@@ -42,7 +42,7 @@ pub fn stepped(unit: &mut [u8], c: Cycle) -> Answer
     ensures { (result ≡ (decided_in unit.old c).answer) × (unit.new ≡ in_place unit.old c) }
 {
     let r = registers_in(unit);
-    let i = (unit_decide::place_of(r, c) % Unit::SEGMENTS) as usize;
+    let i = usize::from(unit_decide::place_of(r, c) % Unit::SEGMENTS);
     let d = descriptor_in(unit, TABLE + DESCRIPTOR * i);
     let p = unit_decide::act(r, d, c);
     store(unit, 0, &register_bytes(p.registers));
