@@ -11,9 +11,10 @@ use rules::{Change, Control, Cycle, Descriptor, Part, Unit};
 pub fn byte_of(d: Descriptor, i: u8) -> u8
     ensures { result ≡ byte_of d i }
 {
+    let [high, low] = d.base.to_be_bytes();
     match i {
-        0 => (d.base / 256) as u8,
-        1 => (d.base % 256) as u8,
+        0 => high,
+        1 => low,
         2 => d.limit,
         _ => d.attributes,
     }
@@ -24,13 +25,14 @@ pub fn byte_of(d: Descriptor, i: u8) -> u8
 pub fn replaced(d: Descriptor, i: u8, b: u8) -> Descriptor
     ensures { result ≡ replaced d i b }
 {
+    let [high, low] = d.base.to_be_bytes();
     match i {
         0 => Descriptor {
-            base: u16::from(b) * 256 + d.base % 256,
+            base: u16::from_be_bytes([b, low]),
             ..d
         },
         1 => Descriptor {
-            base: d.base / 256 * 256 + u16::from(b),
+            base: u16::from_be_bytes([high, b]),
             ..d
         },
         2 => Descriptor { limit: b, ..d },

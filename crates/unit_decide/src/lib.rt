@@ -8,7 +8,8 @@ use rules::refusal::Refusal;
 use rules::{Cycle, Decision, Descriptor, Registers, Unit};
 use unit_dispatch::{refusals, status};
 
-// What is decided in one cycle; `d` is the descriptor at its place.
+// What is decided in one cycle; `d` is the descriptor at its place. The three go down to the leaves one by one, as the definitions take them: a
+// struct of them would be a group that is copied whole (`rules_registers`).
 #[tactic(auto, unfolding(rules::specs::Step::decided))]
 pub fn act(r: Registers, d: Descriptor, c: Cycle) -> Decision
     ensures { result ≡ decided r d c }
