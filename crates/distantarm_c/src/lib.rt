@@ -1,5 +1,5 @@
 // The C interface as C links it: each function here is that of `distantarm` of the same name, and promises what that one does.
-// `include/distantarm.h` declares these functions for C.
+// `include/distantarm.h` declares these functions for C. They are twins of those: what C links is a static library, which no crate can call.
 #![tactic(auto)]
 
 ghost use Rattle.text.specs.Listed.{Listed};
