@@ -45,7 +45,8 @@ fn step(out: Stdout, units: &mut [u8; ALL], count: u8, line: &[u8]) {
     let mut answer = [0; board_packed::BYTES];
     let c = parse::cycle_in(line);
     let selects = lines::selects_in(line);
-    board_bytes::cycle(units, &mut answer, count as usize, c, selects);
+    // what refuses stands in the answer, which is shown
+    let _ = board_bytes::cycle(units, &mut answer, usize::from(count), c, selects);
     show::answer(out, &answer);
     show::changes(out, &before, units);
 }
