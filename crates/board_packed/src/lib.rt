@@ -38,5 +38,5 @@ pub fn put(out: &mut [u8], at: usize, a: BoardAnswer)
     requires { at + board_width ≤ length out.old }
     ensures { out.new ≡ sets out.old at (board_packed a) }
 {
-    store(out, at, &packed(a));
+    store(out, at, packed(a));
 }

@@ -36,7 +36,7 @@ fn put_record(trace: &mut [u8], at: usize, c: Cycle)
 {
     let status = bus_status(c) | flag_if(c.dma, DMA) | flag_if(c.select, SELECT);
     let segment = c.segment | flag_if(c.reset, RESET);
-    store(trace, at, &[status, segment, c.offset, c.byte]);
+    store(trace, at, [status, segment, c.offset, c.byte]);
 }
 
 // What refuses a cycle at a count, in a buffer of so many bytes. "The count with this cycle" may be past all numbers of a usize, so the bound is

@@ -30,7 +30,7 @@ fn put_change(unit: &mut [u8], h: Change, i: usize)
 {
     match h {
         Change::Keep => {}
-        Change::Put(d) => store(unit, TABLE + DESCRIPTOR * i, &descriptor_bytes(d)),
+        Change::Put(d) => store(unit, TABLE + DESCRIPTOR * i, descriptor_bytes(d)),
         Change::Raise(mask) => raised(unit, mask),
     }
 }
@@ -45,7 +45,7 @@ pub fn stepped(unit: &mut [u8], c: Cycle) -> Answer
     let i = usize::from(unit_decide::place_of(r, c) % Unit::SEGMENTS);
     let d = descriptor_in(unit, TABLE + DESCRIPTOR * i);
     let p = unit_decide::act(r, d, c);
-    store(unit, 0, &register_bytes(p.registers));
+    store(unit, 0, register_bytes(p.registers));
     unit[LOW] = p.registers.low;
     put_change(unit, p.change, i);
     p.answer

@@ -135,7 +135,7 @@ pub fn put_descriptor(out: &mut [u8], at: usize, d: Descriptor)
     requires { at + descriptor_size ≤ length out.old }
     ensures { out.new ≡ sets out.old at (descriptor_bytes d) }
 {
-    store(out, at, &descriptor_bytes(d));
+    store(out, at, descriptor_bytes(d));
 }
 
 // The notes in a byte. No `From`, as above.
@@ -174,9 +174,9 @@ pub fn put_unit(out: &mut [u8], u: Unit)
     requires { unit_size ≤ length out.old }
     ensures { out.new ≡ sets out.old 0 (unit_bytes u) }
 {
-    store(out, 0, &register_bytes(u.registers));
+    store(out, 0, register_bytes(u.registers));
     for (i, d) in u.table.iter().enumerate() {
-        store(out, TABLE + DESCRIPTOR * i, &descriptor_bytes(*d));
+        store(out, TABLE + DESCRIPTOR * i, descriptor_bytes(*d));
     }
     out[LOW] = u.registers.low;
 }

@@ -71,5 +71,5 @@ pub fn put(out: &mut [u8], at: usize, a: Answer)
     requires { at + width ≤ length out.old }
     ensures { out.new ≡ sets out.old at (packed a) }
 {
-    store(out, at, &packed(a));
+    store(out, at, packed(a));
 }

@@ -1,14 +1,12 @@
--- What is left when one byte more of a list of bytes is stored.
+-- What a write to a part of a buffer leaves, as stores one after the other.
 -- Assumes nothing.
-use Rattle.std.proofs.Common.{◌≡◌, ◌+◌, ◌<◌, ℕ, List, [], ◌∷◌, length, get_or, take, sym, ap, ◌∙◌, arith}
-use Rattle.std.proofs.lemmas.List.{take_more}
-use Rattle.std.proofs.lemmas.List.Edits.{sets}
-use lib.ListN.{set}
-use lib.Seq.{length-take-le}
-use Rattle.unit_stores.proofs.Laws.{sets-append}
+use Rattle.std.proofs.Common.{◌≡◌, ◌+◌, ◌≤◌, ℕ, List, ◌++◌, length, take, drop, drop-drop, append_assoc, sym, ap, ◌∙◌}
+use Rattle.std.proofs.lemmas.List.Edits.{sets, sets-eq}
+use borrow.Rule.Slice.PartMut.{put_mid}
 
-pub one_more_stored : (l bs : List ℕ) (at i : ℕ) → i < length bs → set (sets l at (take i bs)) (at + i) (get_or bs i 0) ≡ sets l at (take (i + 1) bs)
-one_more_stored l bs at i h =
-    ap (λ (k : ℕ). set (sets l at (take i bs)) (at + k) (get_or bs i 0)) (sym (length-take-le i bs (omega arith)))
-    ∙ sets-append l at (take i bs) (get_or bs i 0 ∷ [])
-    ∙ ap (sets l at) (sym (take_more bs i 0 h))
+pub put_mid_sets : (i k : ℕ) (l vs ws : List ℕ) → ws ≡ vs → k ≡ length vs → i + length vs ≤ length l → put_mid i k l ws ≡ sets l i vs
+put_mid_sets i k l vs ws same long room =
+    ap (λ (r : List ℕ). put_mid i k l r) same
+    ∙ ap (λ (n : ℕ). put_mid i n l vs) long
+    ∙ ap (λ (r : List ℕ). take i l ++ (vs ++ r)) (drop-drop (length vs) i l)
+    ∙ sym (sets-eq vs l i room ∙ append_assoc (take i l) vs (drop (i + length vs) l))
