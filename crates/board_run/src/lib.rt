@@ -296,13 +296,7 @@ pub fn run(records: &[u8], count: u8, out: &mut [u8]) -> usize
 {
     let there = records.len() / RECORD;
     let room = out.len() / board_packed::BYTES;
-    let mut cycles = there;
-    if room < cycles {
-        cycles = room;
-    }
-    if MOST < cycles {
-        cycles = MOST;
-    }
+    let cycles = there.min(room).min(MOST);
     let wrong = (count == 0) | (Board::MOST < count);
     if wrong {
         refuse_to(cycles, out);

@@ -44,6 +44,7 @@ fn step<W: Write>(out: &mut W, board: &mut Seated, c: Cycle, selects: u16) -> io
     let before = board.units;
     let mut answer = [0; board_packed::BYTES];
     let count = usize::from(board.count);
+    // what refuses stands in the answer, which is shown
     let _ = board_bytes::cycle(
         board.units.as_flattened_mut(),
         &mut answer,

@@ -1,10 +1,8 @@
 -- Three of its ends. Assumes nothing.
 use mathlib.Core.Path.{◌≡◌, sym, ap, ◌∙◌}
-use mathlib.Core.Bool.{Bool, true, false, cond}
-use mathlib.Core.Option.{Option, none, some}
+use mathlib.Core.Bool.{Bool, false}
 use borrow.Author.Tests.{le-ltb}
-use Rattle.std.specs.Prelude.{Option as Optional}
-use Rattle.std.proofs.Common.{◌*◌, ℕ, length, arith}
+use Rattle.std.proofs.Common.{◌*◌, ℕ, length}
 use Rattle.rules.specs.Kinds.{number_of}
 use Rattle.unit_bytes.specs.Snapshot.{unit_size}
 use Rattle.board_rules.specs.Board.{Refusal, refusing}

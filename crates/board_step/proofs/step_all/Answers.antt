@@ -14,7 +14,7 @@ use Rattle.board_rules.specs.Board.{Seat, alone, answer_of, afterwards}
 use Rattle.board_rules.proofs.Ahead.{mapped_turn, agree_at, agree_turn}
 use Rattle.board_answers.specs.Joint.{joining, ahead}
 use Rattle.board_answers.specs.declared.Joint.{Joint}
-use Rattle.board_step.proofs.Turns.{rest, rest_all, rest_none, rest_next, seat, join_turn}
+use Rattle.board_step.proofs.Turns.{rest, rest_all, rest_none, rest_next, join_turn}
 use Rattle.board_step.proofs.step_all.Goals as goal
 
 -- the value past the end of a list of units
