@@ -3,7 +3,7 @@
 use mathlib.Core.Path.{◌≡◌, refl, sym, ap, ◌∙◌, subst}
 use mathlib.Core.Bool.{Bool, true, false, cond, ◌&&◌, ◌||◌, false≢true}
 use mathlib.Core.List.{List, [], ◌∷◌}
-use Prim.Native.Nat.{ℕ, zero, suc, ◌+◌, ◌*◌, ◌-◌, ◌/◌, ◌%◌, ◌<◌, ◌≤◌, ◌^◌}
+use Prim.Native.Nat.{ℕ, suc, ◌+◌, ◌*◌, ◌-◌, ◌/◌, ◌%◌, ◌<◌, ◌≤◌, ◌^◌}
 use native.Mathlib.Nat.{pow-succ'}
 use native.Mathlib.Omega.{arith}
 use lib.Dec.{eqb}
@@ -25,10 +25,6 @@ pub higher : (P : ℕ → ℕ → Type 0) (k count : ℕ) → 0 < k → P k (cou
 higher P k count h p = let e : k ≡ suc (k - 1) = omega arith in subst (λ (n : ℕ). P n (count - k)) e p
 
 -- the mask has a bit for each unit from k on, counted as if there were sixteen
-pub power_positive : (n : ℕ) → 0 < 2 ^ n
-power_positive zero = omega arith
-power_positive (suc n) = let h : 0 < 2 ^ n = power_positive n in rw (pow-succ' 2 n) (omega arith)
-
 pub mask_bound : (k mask b : ℕ) → 0 < k → k ≤ 16 → b ≤ 1 → mask < 2 ^ (16 - k) → mask * 2 + b < 2 ^ (16 - (k - 1))
 mask_bound k mask b h l small m =
     let e : 16 - (k - 1) ≡ suc (16 - k) = omega arith in

@@ -2,19 +2,20 @@
 use mathlib.Core.Bool.{Bool, ◌&&◌, ◌||◌}
 use Rattle.std.proofs.Common.{◌≡◌, ◌+◌, ◌*◌, ◌-◌, ◌<◌, arith}
 use lib.ListN.{get_or}
+use lib.Pow.{pow_pos}
 use mir.Val.{bool_byte}
 use Rattle.rules.specs.PowerOn.{power_on}
 use Rattle.rules.specs.declared.Registers.{Registers}
 use Rattle.theorems_boards.specs.Numbers.{may_drive}
 use Rattle.board_run.specs.Plan.{DrivingFrom}
-use Rattle.board_run.proofs.Back.{lower, higher, power_positive, mask_bound, driving_none, driving_turn}
+use Rattle.board_run.proofs.Back.{lower, higher, mask_bound, driving_none, driving_turn}
 use Rattle.board_run.proofs.driving.Goals as goal
 
 pub loop-k-init : goal.loop-k-init
 loop-k-init c =
     let start = c.args in
     let e : start.count - start.count ≡ 0 = omega arith in
-    (omega arith, power_positive (16 - start.count), rw e (driving_none start.registers start.count 0 start.c))
+    (omega arith, pow_pos (16 - start.count), rw e (driving_none start.registers start.count 0 start.c))
 
 pub loop-k-preserved : goal.loop-k-preserved
 loop-k-preserved c =

@@ -1,6 +1,6 @@
 -- The two loops of `run_to`: the run begins, a turn begins, a unit more is stepped, and the turn ends. Assumes nothing.
 use mathlib.Core.Path.{◌≡◌, refl, sym, ap, ◌∙◌, subst}
-use mathlib.Core.Bool.{Bool, false}
+use mathlib.Core.Bool.{Bool}
 use Rattle.std.proofs.Common.{ℕ, ◌+◌, ◌*◌, ◌/◌, ◌%◌, ◌^◌, ◌<◌, ◌≤◌, List, length, arith}
 use native.Mathlib.Nat.{div-one}
 use lib.Dec.{eqb}
