@@ -102,8 +102,7 @@ fn driving(registers: [Registers; Board::UNITS], count: usize, c: Cycle) -> Driv
     let mut mask: u32 = 0;
     let mut drives = false;
     let mut clash = false;
-    for k in (0..count).rev() {
-        let r = registers[k];
+    for r in registers[..count].iter().rev() {
         let drive = board_refusals::may_drive(r.control.mr, c);
         let on = drive | (r.notes.awaits | (r.notes.own | r.notes.hold));
         clash = clash | (drive & drives);
