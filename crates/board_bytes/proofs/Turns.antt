@@ -1,8 +1,8 @@
 -- What one turn does in the two loops over the units' bytes: the part of the turn is the next of those that are still to come.
 -- Assumes nothing.
-use mathlib.Core.Path.{◌≡◌, sym, ap, ◌∙◌}
+use mathlib.Core.Path.{◌≡◌, refl, sym, ap, ◌∙◌}
 use mathlib.Core.List.{List, [], ◌∷◌, ◌++◌, map, append_assoc}
-use Prim.Native.Nat.{ℕ, suc, ◌+◌, ◌*◌, ◌-◌, ◌<◌, ◌≤◌, ◌/◌, ◌%◌}
+use Prim.Native.Nat.{ℕ, zero, suc, ◌+◌, ◌*◌, ◌-◌, ◌<◌, ◌≤◌, ◌/◌, ◌%◌}
 use native.Mathlib.Nat.{add-sub_cancel_left}
 use native.Mathlib.Numerals.{add-one}
 use native.Mathlib.Omega.{arith}
@@ -56,17 +56,43 @@ pub rest_none : (l : List ℕ) (count i : ℕ) → i ≡ count → rest l count 
 unfolding parts_in
 rest_none l count i e = let none : count - i ≡ 0 = omega arith in ap (λ (k : ℕ). parts_in (drop (unit_size * i) l) k) none
 
-module _ (l : List ℕ) (count i left : ℕ) (c : Cycle) (here : i < count) where
-  pub judge_turn : (j : Judged)
-      → judgedAhead (judging j i (held_registers (part_at l i)) (eqb (left % 2) 1) c (asking c)) (i + 1) c (seated (map held_in (rest l count (i + 1))) (left / 2))
-      ≡ judgedAhead j i c (seated (map held_in (rest l count i)) left)
-  unfolding seated held_in
-  judge_turn j =
-      let later : List Seat = seated (map held_in (rest l count (i + 1))) (left / 2) in
-      ap (λ (k : ℕ). judgedAhead (judging j i (held_registers (part_at l i)) (eqb (left % 2) 1) c (asking c)) k c later) (add-one i)
-      ∙ judged_turn j i c (record { unit = held_in (part_at l i); select = eqb (left % 2) 1 }) later
-      ∙ ap (λ (ps : List (List ℕ)). judgedAhead j i c (seated (map held_in ps) left)) (sym (rest_next l count i here))
+-- a chunk of the bytes is the first of the parts, and the others are those of what stands behind it
+module _ (k n : ℕ) (l part behind : List ℕ) (fewer : n + 1 ≡ k) (split : l ≡ part ++ behind) (size : length part ≡ unit_size) where
+  next : parts_in l k ≡ part ∷ parts_in behind n
+  unfolding parts_in
+  next =
+      let more : k ≡ suc n = omega (arith, fewer) in
+      ap (λ (x : ℕ). parts_in l x) more
+      ∙ ap (λ (m : List ℕ). take unit_size m ∷ parts_in (drop unit_size m) n) split
+      ∙ ap (λ (p : List ℕ). p ∷ parts_in (drop unit_size (part ++ behind)) n) (take_at part behind unit_size size)
+      ∙ ap (λ (m : List ℕ). part ∷ parts_in m n) (drop_at part behind unit_size size)
 
+  -- there are bytes for them
+  pub enough_left : unit_size * k ≤ length l → unit_size * n ≤ length behind
+  enough_left enough = omega (arith, fewer, size, enough, ap length split ∙ length-append part behind)
+
+  pub judge_turn : (j : Judged) (i left : ℕ) (c : Cycle)
+      → judgedAhead (judging j i (held_registers part) (eqb (left % 2) 1) c (asking c)) (i + 1) c (seated (map held_in (parts_in behind n)) (left / 2))
+      ≡ judgedAhead j i c (seated (map held_in (parts_in l k)) left)
+  unfolding seated held_in
+  judge_turn j i left c =
+      let later : List Seat = seated (map held_in (parts_in behind n)) (left / 2) in
+      ap (λ (x : ℕ). judgedAhead (judging j i (held_registers part) (eqb (left % 2) 1) c (asking c)) x c later) (add-one i)
+      ∙ judged_turn j i c (record { unit = held_in part; select = eqb (left % 2) 1 }) later
+      ∙ ap (λ (ps : List (List ℕ)). judgedAhead j i c (seated (map held_in ps) left)) (sym next)
+
+-- no part is left where the chunks end, since they end only where there are no bytes
+none_left : (n bytes : ℕ) → unit_size * n ≤ bytes → (0 < n → bytes ≡ 0) → n ≡ 0
+none_left zero bytes enough none = refl
+none_left (suc n) bytes enough none = absurd (omega (arith, none (omega arith)))
+
+pub judged_all : (n : ℕ) (l : List ℕ) (j : Judged) (i left : ℕ) (c : Cycle) → unit_size * n ≤ length l → (0 < n → length l ≡ 0)
+    → judgedAhead j i c [] ≡ judgedAhead j i c (seated (map held_in (parts_in l n)) left)
+unfolding seated parts_in
+judged_all n l j i left c enough none =
+    ap (λ (k : ℕ). judgedAhead j i c (seated (map held_in (parts_in l k)) left)) (sym (none_left n (length l) enough none))
+
+module _ (l : List ℕ) (count i left : ℕ) (c : Cycle) (here : i < count) where
   pub join_turn : (t : Joint)
       → joinedAhead (joining t i (stepped (unit_in (part_at l i)) (seen_by (eqb (left % 2) 1) c)).answer) (i + 1)
       (map (answer_of c) (seated (map unit_in (rest l count (i + 1))) (left / 2)))

@@ -42,28 +42,29 @@ fn held_registers(unit: &[u8]) -> Registers
 
 // The first `count` units, judged. `board_step` has this loop and the next one by value; they are no generic one, which is no plainer: a trait of
 // both would have two views of a unit, since strange notes are judged as `held_in` and stepped as `unit_in`, and `Boarded` tells every byte.
+// Bytes and a count, no slice of units: `seats_in` takes both, and by the slice's length the bound would still stand here, of the length.
 fn judge_all(units: &[u8], count: usize, c: BoardCycle) -> Judged
     requires { (count ≤ 16) × (unit_size * count ≤ length units.now) }
     ensures { Known result c.cycle (seats_in units.now count c.selects) }
 {
     let q = board_refusals::ask(c.cycle);
     let mut j = board_refusals::unjudged();
-    for i in 0..count {
-        let at = snapshot::BYTES * i;
-        let r = held_registers(&units[at..at + snapshot::BYTES]);
+    for (i, unit) in units.chunks(snapshot::BYTES).enumerate().take(count) {
+        let r = held_registers(unit);
         let select = (c.selects >> i) % 2 == 1;
         j = board_refusals::judge(j, i as u8, r, select, c.cycle, q);
     }
     j
 }
 
-// The first `count` units, each stepped alone in its bytes, and what they answered.
+// The first `count` units, each stepped alone in its bytes, and what they answered. It takes a count as `judge_all` does: so does `stepped_in`.
 fn step_all(units: &mut [u8], count: usize, c: BoardCycle) -> Joint
     requires { (count ≤ 16) × (unit_size * count ≤ length units.old) }
     ensures { (units.new ≡ stepped_in c.cycle count c.selects units.old)
         × (ahead result count [] ≡ ahead nothing 0 (map (answer_of c.cycle) (seated (map unit_in (parts_in units.old count)) c.selects))) }
 {
     let mut joint = board_answers::nothing();
+    // By its index, since the library says nothing of what a slice ends as whose parts `chunks_exact_mut` or `as_chunks_mut` has lent.
     for i in 0..count {
         let at = snapshot::BYTES * i;
         let select = (c.selects >> i) % 2 == 1;

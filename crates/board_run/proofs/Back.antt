@@ -2,13 +2,16 @@
 -- Assumes nothing.
 use mathlib.Core.Path.{◌≡◌, refl, sym, ap, ◌∙◌, subst}
 use mathlib.Core.Bool.{Bool, true, false, cond, ◌&&◌, ◌||◌, false≢true}
-use mathlib.Core.List.{List, [], ◌∷◌}
-use Prim.Native.Nat.{ℕ, zero, suc, ◌+◌, ◌*◌, ◌-◌, ◌/◌, ◌%◌, ◌<◌, ◌≤◌, ◌^◌}
+use mathlib.Core.List.{List, [], ◌∷◌, ◌++◌, append_assoc}
+use Prim.Native.Nat.{ℕ, suc, ◌+◌, ◌*◌, ◌-◌, ◌/◌, ◌%◌, ◌<◌, ◌≤◌, ◌^◌}
 use native.Mathlib.Nat.{pow-succ'}
+use native.Mathlib.Numerals.{add-one}
 use native.Mathlib.Omega.{arith}
 use lib.Dec.{eqb}
-use lib.ListN.{get_or}
+use lib.ListN.{length, get_or, length-append}
+use lib.Seq.{get_or-append_seam}
 use mir.Val.{bool_byte}
+use Rattle.std.specs.List.{push}
 use Rattle.rules.specs.PowerOn.{power_on}
 use Rattle.rules.specs.declared.Cycle.{Cycle}
 use Rattle.rules.specs.declared.Registers.{Registers}
@@ -17,22 +20,28 @@ use Rattle.theorems_boards.specs.Numbers.{may_drive, seat_drives}
 use Rattle.board_run.specs.Plan.{units_from, Off, DrivingFrom}
 use Rattle.board_run.proofs.Classes.{memory_class, memory-concerns}
 
--- what is known of the units from k on, k being one lower
-pub lower : (P : ℕ → ℕ → Type 0) (k count : ℕ) → 0 < k → k ≤ count → P (k - 1) (suc (count - k)) → P (k - 1) (count - (k - 1))
-lower P k count h l p = let e : suc (count - k) ≡ count - (k - 1) = omega arith in subst (λ (n : ℕ). P (k - 1) n) e p
+-- the last of the registers that are left, those behind it having been looked at
+module _ (rs left front behind : List Registers) (r : Registers) (ends : left ≡ push front r) (split : left ++ behind ≡ rs) where
+  pub shorter : front ++ (r ∷ behind) ≡ rs
+  shorter = sym (append_assoc front (r ∷ []) behind) ∙ ap (λ (l : List Registers). l ++ behind) (sym ends) ∙ split
 
-pub higher : (P : ℕ → ℕ → Type 0) (k count : ℕ) → 0 < k → P k (count - k) → P (suc (k - 1)) (count - k)
-higher P k count h p = let e : k ≡ suc (k - 1) = omega arith in subst (λ (n : ℕ). P n (count - k)) e p
+  pub one_fewer : length left ≡ suc (length front)
+  one_fewer = ap length ends ∙ length-append front (r ∷ []) ∙ add-one (length front)
+
+  pub last_is : r ≡ get_or rs (length front) power_on.registers
+  last_is =
+      sym (get_or-append_seam front r behind power_on.registers)
+      ∙ ap (λ (l : List Registers). get_or l (length front) power_on.registers) shorter
+
+-- what is known of the units from k on, k being one lower
+pub lower : (P : ℕ → Type 0) (k n count : ℕ) → n ≡ suc k → n ≤ count → P (suc (count - n)) → P (count - k)
+lower P k n count e l p = let more : suc (count - n) ≡ count - k = omega (arith, e) in subst P more p
 
 -- the mask has a bit for each unit from k on, counted as if there were sixteen
-pub power_positive : (n : ℕ) → 0 < 2 ^ n
-power_positive zero = omega arith
-power_positive (suc n) = let h : 0 < 2 ^ n = power_positive n in rw (pow-succ' 2 n) (omega arith)
-
-pub mask_bound : (k mask b : ℕ) → 0 < k → k ≤ 16 → b ≤ 1 → mask < 2 ^ (16 - k) → mask * 2 + b < 2 ^ (16 - (k - 1))
-mask_bound k mask b h l small m =
-    let e : 16 - (k - 1) ≡ suc (16 - k) = omega arith in
-    rw (e, pow-succ' 2 (16 - k)) (omega arith)
+pub mask_bound : (k n mask b : ℕ) → n ≡ suc k → n ≤ 16 → b ≤ 1 → mask < 2 ^ (16 - n) → mask * 2 + b < 2 ^ (16 - k)
+mask_bound k n mask b e l small m =
+    let more : 16 - k ≡ suc (16 - n) = omega (arith, e) in
+    rw (more, pow-succ' 2 (16 - n)) (omega arith)
 
 -- drivers
 

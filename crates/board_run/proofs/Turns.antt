@@ -3,16 +3,19 @@
 use mathlib.Core.Path.{◌≡◌, refl, sym, ap, ◌∙◌}
 use mathlib.Core.Bool.{Bool, true, false}
 use mathlib.Core.List.{List, [], ◌∷◌, ◌++◌}
-use Prim.Native.Nat.{ℕ, zero, suc, ◌+◌, ◌*◌, ◌-◌, ◌≤◌}
+use Prim.Native.Nat.{ℕ, zero, suc, ◌+◌, ◌*◌, ◌-◌, ◌/◌, ◌<◌, ◌≤◌}
 use native.Mathlib.Nat.{zero-add, suc-add}
 use native.Mathlib.Omega.{arith}
 use native.Mathlib.Numerals.{add-one}
 use lib.ListN.{length, get_or, take, drop, length-append, replicate}
-use lib.Seq.{sets, length-sets}
+use lib.Seq.{sets, length-sets, drop-drop, get_or-take, get_or-drop}
+use Rattle.std.proofs.lemmas.List.{take-take}
+use Rattle.std.specs.Simd.{first_chunks}
 use Rattle.rules.specs.PowerOn.{blank, power_on}
 use Rattle.rules.specs.declared.Descriptor.{Descriptor}
 use Rattle.rules.specs.declared.Registers.{Registers}
 use Rattle.rules.specs.declared.Unit.{Unit}
+use Rattle.unit_stores.specs.Word.{word_at}
 use Rattle.unit_stores.proofs.Laws.{sets-append}
 use Rattle.unit_packed.specs.Packed.{packed}
 use Rattle.board_rules.specs.Board.{nobodys, wrong_count, refusing, board_answer_by, board_answer, board_after, board_answers, board_final}
@@ -20,7 +23,7 @@ use Rattle.board_rules.specs.declared.Board.{Board}
 use Rattle.board_rules.specs.declared.BoardAnswer.{BoardAnswer}
 use Rattle.board_rules.specs.declared.BoardCycle.{BoardCycle}
 use Rattle.board_packed.specs.BoardPacked.{board_width, board_packed, board_packed_all}
-use Rattle.board_run.specs.BoardRun.{record_size, board_cycle_at, board_cycles_to, board_on, board_ran_to, refused_to}
+use Rattle.board_run.specs.BoardRun.{record_size, low_at, board_cycle_at, board_cycles_to, board_on, board_ran_to, refused_to}
 use Rattle.board_run.specs.Plan.{table_of, unit_of, units_from}
 use Rattle.board_run.proofs.Boards.{board_of}
 
@@ -73,6 +76,32 @@ board_at t count n = board_final (board_on count) (board_cycles_to t n)
 
 abbrev pub cycle_at : List ℕ → ℕ → BoardCycle
 cycle_at t n = board_cycle_at t (record_size * n)
+
+-- record n, among the records as arrays
+record_among : (d : List ℕ) (n m : ℕ) (t : List ℕ) → n < m → get_or (first_chunks record_size m t) n d ≡ take record_size (drop (record_size * n) t)
+record_among d n zero t l = absurd (omega (arith, l))
+record_among d zero (suc m) t l = refl
+record_among d (suc n) (suc m) t l =
+    record_among d n m (drop record_size t) (omega (arith, l))
+    ∙ ap (take record_size) (drop-drop (record_size * n) record_size t ∙ ap (λ (k : ℕ). drop k t) (omega arith))
+
+byte_among : (t : List ℕ) (at k : ℕ) → k < record_size → get_or (take record_size (drop at t)) k 0 ≡ get_or t (at + k) 0
+byte_among t at k h = get_or-take record_size (drop at t) k 0 h ∙ get_or-drop at t k 0
+
+cycle_among : (t : List ℕ) (at : ℕ) → board_cycle_at (take record_size (drop at t)) 0 ≡ board_cycle_at t at
+unfolding board_cycle_at word_at
+cycle_among t at =
+    let last : get_or (take record_size (drop at t)) 6 0 ≡ get_or t (at + 5 + 1) 0 =
+    byte_among t at 6 (omega arith) ∙ ap (λ (k : ℕ). get_or t k 0) (omega arith) in
+    rw (take-take low_at record_size (drop at t) (omega arith), byte_among t at 4 (omega arith), byte_among t at 5 (omega arith), last) refl
+
+pub record_shown : (t d : List ℕ) (n count : ℕ) → n < count → record_size * count ≤ length t
+    → board_cycle_at (get_or (take count (first_chunks record_size (length t / record_size) t)) n d) 0 ≡ cycle_at t n
+record_shown t d n count h enough =
+    ap (λ (p : List ℕ). board_cycle_at p 0)
+    (get_or-take count (first_chunks record_size (length t / record_size) t) n d h
+    ∙ record_among d n (length t / record_size) t (omega (arith, h, enough)))
+    ∙ cycle_among t (record_size * n)
 
 pub board_turned : (t : List ℕ) (count n : ℕ) → board_after (board_at t count n) (cycle_at t n) ≡ board_at t count (n + 1)
 unfolding board_cycles_to

@@ -58,17 +58,16 @@ struct Prepared {
 
 // The cycle of a record.
 #[tactic(auto, unfolding(crate::specs::BoardRun::board_cycle_at, unit_stores::specs::Word::word_at))]
-fn cycle_at(records: &[u8], at: usize) -> BoardCycle
-    requires { at + record_size ≤ length records.now }
-    ensures { result ≡ board_cycle_at records.now at }
+fn cycle_of(bytes: &[u8; RECORD]) -> BoardCycle
+    ensures { result ≡ board_cycle_at bytes.now 0 }
 {
-    let cycle = trace_records::decode(&records[at..at + LOW_AT]);
+    let cycle = trace_records::decode(&bytes[..LOW_AT]);
     BoardCycle {
         cycle: Cycle {
-            low: records[at + LOW_AT],
+            low: bytes[LOW_AT],
             ..cycle
         },
-        selects: word(records[at + SELECTS_AT], records[at + SELECTS_AT + 1]),
+        selects: word(bytes[SELECTS_AT], bytes[SELECTS_AT + 1]),
     }
 }
 
@@ -102,8 +101,7 @@ fn driving(registers: [Registers; Board::UNITS], count: usize, c: Cycle) -> Driv
     let mut mask: u32 = 0;
     let mut drives = false;
     let mut clash = false;
-    for k in (0..count).rev() {
-        let r = registers[k];
+    for r in registers[..count].iter().rev() {
         let drive = board_refusals::may_drive(r.control.mr, c);
         let on = drive | (r.notes.awaits | (r.notes.own | r.notes.hold));
         clash = clash | (drive & drives);
@@ -230,8 +228,10 @@ fn run_to(records: &[u8], count: usize, cycles: usize, out: &mut [u8])
     let r0 = u.registers;
     let mut tables = [Descriptor::BLANK; ALL];
     let mut registers = [r0; Board::UNITS];
-    for n in 0..cycles {
-        let b = cycle_at(records, RECORD * n);
+    let (records, _) = records.as_chunks::<RECORD>();
+    // The answers by their index, since the library says nothing of what a slice ends as that `as_chunks_mut` has lent.
+    for (n, record) in records[..cycles].iter().enumerate() {
+        let b = cycle_of(record);
         let c = b.cycle;
         let p = plan(registers, count, b);
         let j = p.judged;
@@ -248,7 +248,7 @@ fn run_to(records: &[u8], count: usize, cycles: usize, out: &mut [u8])
                 let r = registers[i];
                 if on {
                     let seen = seen_by(c, select);
-                    let place = (unit_decide::place_of(r, seen) % Unit::SEGMENTS) as usize;
+                    let place = usize::from(unit_decide::place_of(r, seen) % Unit::SEGMENTS);
                     let at = Unit::DESCRIPTORS * i + place;
                     let d = tables[at];
                     let p = act(r, d, seen);
@@ -282,6 +282,7 @@ fn refuse_to(cycles: usize, out: &mut [u8])
     requires { (cycles ≤ most) × (board_width * cycles ≤ length out.old) }
     ensures { out.new ≡ refused_to cycles out.old }
 {
+    // By its index, since the library says nothing of what a slice ends as that `as_chunks_mut` has lent.
     for n in 0..cycles {
         let a = board_refusals::refused(Refusal::WrongCount.into(), None, false);
         board_packed::put(out, board_packed::BYTES * n, a);

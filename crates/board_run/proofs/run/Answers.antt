@@ -1,5 +1,5 @@
 -- `run` with a wrong count: the number of records, and that all of them are refused. Assumes nothing.
-use mathlib.Core.Path.{◌≡◌, ap, ◌∙◌}
+use mathlib.Core.Path.{ap, ◌∙◌}
 use Rattle.std.specs.Prelude.{min}
 use Rattle.std.proofs.Common.{ℕ, length}
 use Rattle.board_run.specs.BoardRun.{most}

@@ -1,10 +1,10 @@
 -- The two loops of `run_to`: the run begins, a turn begins, a unit more is stepped, and the turn ends. Assumes nothing.
 use mathlib.Core.Path.{◌≡◌, refl, sym, ap, ◌∙◌, subst}
-use mathlib.Core.Bool.{Bool, false}
-use Rattle.std.proofs.Common.{ℕ, ◌+◌, ◌*◌, ◌/◌, ◌%◌, ◌^◌, ◌<◌, ◌≤◌, List, length, arith}
+use mathlib.Core.Bool.{Bool}
+use Rattle.std.proofs.Common.{ℕ, ◌+◌, ◌*◌, ◌/◌, ◌%◌, ◌^◌, ◌<◌, ◌≤◌, List, [], length, take, arith}
 use native.Mathlib.Nat.{div-one}
 use lib.Dec.{eqb}
-use lib.ListN.{get_or, set, length-set}
+use lib.ListN.{get_or, set, length-set, length-take}
 use borrow.Author.Tests.{ne_eqb}
 use Rattle.rules.specs.PowerOn.{blank, power_on}
 use Rattle.rules.specs.Refusals.{out_of_range}
@@ -31,12 +31,12 @@ use Rattle.board_refusals.specs.declared.Verdict.{Verdict}
 use Rattle.board_answers.specs.Joint.{joining}
 use Rattle.board_answers.specs.declared.Joint.{Joint}
 use Rattle.board_packed.specs.BoardPacked.{board_packed_all}
-use Rattle.board_run.specs.BoardRun.{record_size, board_cycles_to, board_ran_to}
+use Rattle.board_run.specs.BoardRun.{record_size, board_cycle_at, board_cycles_to, board_ran_to}
 use Rattle.board_run.specs.Plan.{table_of, units_of, Changed, Planned, PlanIs, any_asks}
 use Rattle.board_run.proofs.Flat.{stored_changed, kept-changed, units-length}
 use Rattle.board_run.proofs.Stepping.{Stepping, units-all, stepping_begins, stepping_ends, turn_off, admitted_now, turn_by, by_change}
 use Rattle.board_run.proofs.Boards.{board_of, in_range, healthy, refused_board, accepted_board, stepped_board}
-use Rattle.board_run.proofs.Turns.{board_at, cycle_at, turn_ends, board_begins}
+use Rattle.board_run.proofs.Turns.{board_at, cycle_at, record_shown, turn_ends, board_begins}
 use Rattle.board_run.proofs.run_to.Goals as goal
 use Rattle.board_run.proofs.run_to.Goals.{then-on+in-Keep, then-on+in-Put, then-on+in-Raise, else-on, in-Some, in_default+else-loop-i-test}
 
@@ -79,9 +79,14 @@ pub loop-i-init : goal.loop-i-init
 loop-i-init c =
     let l = c.loop-n in
     let n : ℕ = c.args.count in
-    let b : BoardCycle = c.cycle_at-b.result in
+    let b : BoardCycle = c.cycle_of-b.result in
+    let here : c.loop-n.n < c.args.cycles = omega (arith, c.loop-n-test.true, length-take c.args.cycles c.as_chunks.result.0.now) in
+    let read : b ≡ cycle_at c.args.records.now c.loop-n.n =
+    c.cycle_of-b.ensures
+    ∙ ap (λ (l : List (List ℕ)). board_cycle_at (get_or (take c.args.cycles l) c.loop-n.n []) 0) c.as_chunks.ensures.front
+    ∙ record_shown c.args.records.now [] c.loop-n.n c.args.cycles here c.requires.3 in
     let j : Judged = c.plan-p.result.judged in
-    let plan = planned c.args.records.now n l.n l.registers l.tables b c.plan-p.result.mask j l.invariant.3 c.cycle_at-b.ensures c.plan-p.ensures in
+    let plan = planned c.args.records.now n l.n l.registers l.tables b c.plan-p.result.mask j l.invariant.3 read c.plan-p.ensures in
     let accepts = accepted_by (refuses j b.cycle.read) (refusal_in j) (sym (ap given c.in_default.is) ∙ c.refuses.ensures) in (
       l.invariant.0,
       l.invariant.1,
@@ -95,7 +100,7 @@ pub act-p-requires : goal.act-p-requires
 act-p-requires c =
     let first = c.loop-n in
     let l = c.loop-i in
-    let b : BoardCycle = c.cycle_at-b.result in
+    let b : BoardCycle = c.cycle_of-b.result in
     let n : ℕ = c.args.count in
     let h =
     admitted_now (units_of first.registers first.tables n) n b.selects b.cycle l.registers l.tables l.joint l.i (b.selects / 2 ^ l.i) (c.plan-p.result.mask / 2 ^ l.i) l.invariant.2
@@ -107,7 +112,7 @@ unfolding changed
 loop-i-preserved c =
     let first = c.loop-n in
     let l = c.loop-i in
-    let b : BoardCycle = c.cycle_at-b.result in
+    let b : BoardCycle = c.cycle_of-b.result in
     let n : ℕ = c.args.count in
     let us : List Unit = units_of first.registers first.tables n in
     let here : l.i < n = c.loop-i-test.true in
@@ -118,16 +123,16 @@ loop-i-preserved c =
       | then-on+in-Keep w ↦
           rw (w.tables-is, w.registers-is, ← select_next l.i b.selects, ← select_next l.i c.plan-p.result.mask, w.joint-is)
           (one w.seen_by-seen.result w.place_of.result w.act-p.result w.join-joint.result Keep l.tables
-          w.seen_by-seen.ensures w.place_of.ensures w.act-p.ensures w.join-joint.ensures w.in-Keep.is (kept-changed l.tables l.i))
+          w.seen_by-seen.ensures w.place_of.ensures (rw w.from-place.ensures at w.act-p.ensures) w.join-joint.ensures w.in-Keep.is (kept-changed l.tables l.i))
       | then-on+in-Put w ↦
-          rw (w.tables-is, w.registers-is, ← select_next l.i b.selects, ← select_next l.i c.plan-p.result.mask, w.joint-is)
+          rw (w.tables-is, w.from-place.ensures, w.registers-is, ← select_next l.i b.selects, ← select_next l.i c.plan-p.result.mask, w.joint-is)
           (one w.seen_by-seen.result w.place_of.result w.act-p.result w.join-joint.result (Put w.in-Put.e) _
-          w.seen_by-seen.ensures w.place_of.ensures w.act-p.ensures w.join-joint.ensures w.in-Put.is
+          w.seen_by-seen.ensures w.place_of.ensures (rw w.from-place.ensures at w.act-p.ensures) w.join-joint.ensures w.in-Put.is
           (stored_changed l.tables l.i (w.place_of.result % 64) w.in-Put.e (place w.place_of.result)))
       | then-on+in-Raise w ↦
           rw (w.tables-is, w.registers-is, ← select_next l.i b.selects, ← select_next l.i c.plan-p.result.mask, w.joint-is)
           (one w.seen_by-seen.result w.place_of.result w.act-p.result w.join-joint.result (Raise w.in-Raise.flags) w.raised-tables.result
-          w.seen_by-seen.ensures w.place_of.ensures w.act-p.ensures w.join-joint.ensures w.in-Raise.is w.raised-tables.ensures)
+          w.seen_by-seen.ensures w.place_of.ensures (rw w.from-place.ensures at w.act-p.ensures) w.join-joint.ensures w.in-Raise.is w.raised-tables.ensures)
       | else-on w ↦
           rw (w.tables-is, w.registers-is, ← select_next l.i b.selects, ← select_next l.i c.plan-p.result.mask, w.joint-is, w.pass_by-joint.ensures) (
             l.invariant.0,
@@ -143,9 +148,14 @@ loop-n-preserved c =
     let o : List ℕ = c.args.out.now in
     let n : ℕ = c.args.count in
     let l = c.loop-n in
-    let b : BoardCycle = c.cycle_at-b.result in
+    let b : BoardCycle = c.cycle_of-b.result in
+    let here : c.loop-n.n < c.args.cycles = omega (arith, c.loop-n-test.true, length-take c.args.cycles c.as_chunks.result.0.now) in
+    let read : b ≡ cycle_at c.args.records.now c.loop-n.n =
+    c.cycle_of-b.ensures
+    ∙ ap (λ (l : List (List ℕ)). board_cycle_at (get_or (take c.args.cycles l) c.loop-n.n []) 0) c.as_chunks.ensures.front
+    ∙ record_shown c.args.records.now [] c.loop-n.n c.args.cycles here c.requires.3 in
     let j : Judged = c.plan-p.result.judged in
-    let plan = planned t n l.n l.registers l.tables b c.plan-p.result.mask j l.invariant.3 c.cycle_at-b.ensures c.plan-p.ensures in
+    let plan = planned t n l.n l.registers l.tables b c.plan-p.result.mask j l.invariant.3 read c.plan-p.ensures in
     elim c.match-refuses.branch [
       | in-Some w ↦
           let v : Verdict = w.in-Some.v in
@@ -158,7 +168,7 @@ loop-n-preserved c =
           ∙ ap (λ (s : Bool). refusing (refusal_in j) s) w.asks.ensures in
           let made =
           turn_ends t o l.out w.put.new.out n l.n l.registers l.registers l.tables l.tables b w.refused-a.result
-          l.invariant.2 l.invariant.3 c.cycle_at-b.ensures (said ∙ ends.0) ends.1 w.put.ensures in
+          l.invariant.2 l.invariant.3 read (said ∙ ends.0) ends.1 w.put.ensures in
           rw (w.out-is, w.tables-is, w.registers-is) (l.invariant.0, l.invariant.1, made.1, made.2)
       | in_default+else-loop-i-test w ↦
           let last = w.loop-i in
@@ -172,6 +182,6 @@ loop-n-preserved c =
           last.registers last.tables last.joint stepped.0 stepped.1 in
           let made =
           turn_ends t o l.out w.put-in_default.new.out n l.n l.registers last.registers l.tables last.tables b w.told-a.result
-          l.invariant.2 l.invariant.3 c.cycle_at-b.ensures (w.told-a.ensures ∙ ends.0) ends.1 w.put-in_default.ensures in
+          l.invariant.2 l.invariant.3 read (w.told-a.ensures ∙ ends.0) ends.1 w.put-in_default.ensures in
           rw (w.out-is, w.tables-is, w.registers-is) (last.invariant.0, last.invariant.1, made.1, made.2)
     ]

@@ -1,6 +1,6 @@
 -- What `selected` answers. Assumes nothing.
-use mathlib.Core.Path.{◌≡◌, refl, sym, ap, ◌∙◌}
-use mathlib.Core.Bool.{Bool, not}
+use mathlib.Core.Path.{◌≡◌, sym, ap, ◌∙◌}
+use mathlib.Core.Bool.{not}
 use Rattle.std.proofs.Common.{ℕ, ◌*◌, ◌%◌, ◌^◌, arith}
 use lib.Count.{ones, count_trailing_zeros}
 use lib.Dec.{eqb, ltb}
