@@ -78,10 +78,9 @@ fn raised(tables: [Descriptor; ALL], i: usize, mask: u8) -> [Descriptor; ALL]
     ensures { RaisedIn mask i tables result }
 {
     let mut out = tables;
-    for k in 0..Unit::DESCRIPTORS {
-        let at = Unit::DESCRIPTORS * i + k;
-        let d = out[at];
-        out[at] = with_flags(d, mask);
+    let at = Unit::DESCRIPTORS * i;
+    for d in &mut out[at..at + Unit::DESCRIPTORS] {
+        *d = with_flags(*d, mask);
     }
     out
 }
