@@ -93,6 +93,7 @@ fn bit(on: bool) -> u32
 }
 
 // The units that a memory cycle may concern, from the last to the first, so that the first has the lowest bit.
+// Registers and a count, no slice of them, here, in `asks` and in `plan`: `DrivingIs`, `any_asks` and `PlanIs` take the array and a count.
 fn driving(registers: [Registers; Board::UNITS], count: usize, c: Cycle) -> Drivers
     requires { count ≤ 16 }
     ensures { DrivingIs registers count c result }
@@ -114,7 +115,7 @@ fn driving(registers: [Registers; Board::UNITS], count: usize, c: Cycle) -> Driv
     }
 }
 
-// The selects of the first `count` units.
+// The selects of the first `count` units. A count is all that there is to ask: the selects are the bits of one number.
 fn selected(selects: u16, count: usize) -> Chosen
     requires { count ≤ 16 }
     ensures { (is_some result.first ≡ any_on count selects) × (result.several ≡ several_on count selects)
@@ -241,6 +242,7 @@ fn run_to(records: &[u8], count: usize, cycles: usize, out: &mut [u8])
             let mut joint = board_answers::nothing();
             let selects = b.selects;
             let mask = p.mask;
+            // By the unit's number: its registers and its descriptors stand in two arrays, and `raised` takes the tables whole.
             for i in 0..count {
                 let select = (selects >> i) % 2 == 1;
                 let on = (mask >> i) % 2 == 1;
