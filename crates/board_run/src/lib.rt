@@ -93,7 +93,7 @@ fn bit(on: bool) -> u32
 }
 
 // The units that a memory cycle may concern, from the last to the first, so that the first has the lowest bit.
-// Registers and a count, no slice of them, here, in `asks` and in `plan`: `DrivingIs`, `any_asks` and `PlanIs` take the array and a count.
+// Registers and a count, no slice of them, here and in `plan`: `DrivingIs` and `PlanIs` take the array and a count.
 fn driving(registers: [Registers; Board::UNITS], count: usize, c: Cycle) -> Drivers
     requires { count ≤ 16 }
     ensures { DrivingIs registers count c result }
@@ -129,6 +129,7 @@ fn selected(selects: u16, count: usize) -> Chosen
 }
 
 // A request stands in a unit.
+// Of a slice it was proved too, and the run took 1.6 % more instructions: 465.8 to 473.5 a cycle of one unit, 1,144 to 1,163 of 16 (mixed).
 #[tactic(auto, unfolding(crate::specs::Plan::asks_from))]
 fn asks(registers: [Registers; Board::UNITS], count: usize) -> bool
     requires { count ≤ 16 }
