@@ -220,7 +220,7 @@ fn act(r: Registers, d: Descriptor, c: Cycle) -> Decision
 }
 
 // The first `cycles` records, answered into the buffer, by a board of `count` units. There is one call of `act` in it: the compiler then writes
-// its code here.
+// its code here. Registers and tables are its own, so that a count of units is all that it can be given.
 fn run_to(records: &[u8], count: usize, cycles: usize, out: &mut [u8])
     requires { (1 ≤ count) × (count ≤ 16) × (cycles ≤ most) × (record_size * cycles ≤ length records.now) × (board_width * cycles ≤ length out.old) }
     ensures { out.new ≡ board_ran_to records.now count cycles out.old }
