@@ -3,13 +3,15 @@
 use mathlib.Core.Path.{◌≡◌, refl, sym, ap, ◌∙◌}
 use mathlib.Core.Logic.{◌≢◌, ⊎_elim}
 use mathlib.Core.Bool.{Bool, true, false}
-use mathlib.Core.List.{List, ◌∷◌}
+use mathlib.Core.List.{List, ◌∷◌, ◌++◌}
 use Prim.Native.Nat.{ℕ, zero, suc, ◌+◌, ◌*◌, ◌-◌, ◌<◌, ◌≤◌}
 use native.Mathlib.Nat.{add-zero, add-suc, suc-add, not-suc-le-zero, le_of_suc-le-suc, eq-or-lt_of_le}
 use native.Mathlib.Omega.{arith}
 use lib.Dec.{ltb}
-use lib.ListN.{length, get_or, take, drop, set, length-take, length-drop, length-set}
-use lib.Seq.{get_or-take, get_or-drop, get_or-set_same, get_or-set_other, take-set-le, take-set-lt, drop-set-lt, drop-set-add}
+use lib.ListN.{length, get_or, take, drop, set, length-take, length-drop, length-set, take-append-drop}
+use lib.Seq.{get_or-take, get_or-drop, get_or-set_same, get_or-set_other, take-set-le, take-set-lt, drop-set-lt, drop-set-add, length-take-le, take_at, drop_at, drop-drop}
+use Rattle.std.proofs.lemmas.List.{drop-append-le, take-append-le}
+use borrow.Rule.Slice.PartMut.{put_mid, same_len_mid, take_put, drop_put}
 use borrow.Author.Tests.{ltb-true, ltb-false}
 use Rattle.rules.specs.PowerOn.{power_on}
 use Rattle.rules.specs.declared.Descriptor.{Descriptor}
@@ -101,6 +103,50 @@ stored_changed ts i p e h = record {
   here = table_here ts i p e h;
   there = λ j other. table_there ts i p j e h other;
 }
+
+-- the table of unit i put back, as the code cut it out
+table_before : (a j : ℕ) (ts : List Descriptor) → a ≤ length ts → 64 * j + 64 ≤ a → table_of (take a ts) j ≡ table_of ts j
+table_before a j ts h l =
+    let front : length (take a ts) ≡ a = length-take-le a ts h in
+    let left : length (drop (64 * j) (take a ts)) ≡ a - 64 * j = length-drop (64 * j) (take a ts) ∙ ap (λ (k : ℕ). k - 64 * j) front in
+    sym (take-append-le 64 (drop (64 * j) (take a ts)) (drop a ts) (omega (arith, left)))
+    ∙ ap (take 64) (sym (drop-append-le (64 * j) (take a ts) (drop a ts) (omega (arith, front))))
+    ∙ ap (λ (m : List Descriptor). table_of m j) (take-append-drop a ts)
+
+table_behind : (e j : ℕ) (ts : List Descriptor) → e ≤ 64 * j → take 64 (drop (64 * j - e) (drop e ts)) ≡ table_of ts j
+table_behind e j ts h = ap (take 64) (drop-drop (64 * j - e) e ts ∙ ap (λ (k : ℕ). drop k ts) (omega arith))
+
+module _ (ts y : List Descriptor) (i : ℕ) (room : 64 * i + 64 ≤ length ts) (long : length y ≡ 64) where
+  abbrev part : ℕ
+  part = 64 * i + 64 - 64 * i
+
+  whole : part ≡ 64
+  whole = omega arith
+
+  put_size : length (put_mid (64 * i) part ts y) ≡ length ts
+  put_size = same_len_mid (64 * i) part ts y (long ∙ sym (ap (λ (k : ℕ). length (take k (drop (64 * i) ts))) whole ∙ table_long ts i room))
+
+  pub put_changed : Changed i y ts (put_mid (64 * i) part ts y)
+  put_changed = record {
+    size = put_size;
+    here =
+        ap (take 64) (drop_at (take (64 * i) ts) (y ++ drop part (drop (64 * i) ts)) (64 * i) (length-take-le (64 * i) ts (omega arith)))
+        ∙ take_at y (drop part (drop (64 * i) ts)) 64 long;
+    there = λ j other. go j other (ltb i j) refl;
+  }
+    where
+      go : (j : ℕ) → j ≢ i → (b : Bool) → ltb i j ≡ b → table_of (put_mid (64 * i) part ts y) j ≡ table_of ts j
+      go j other true q =
+          let behind : i < j = ltb-true i j q in
+          sym (table_behind (64 * i + 64) j (put_mid (64 * i) part ts y) (omega arith))
+          ∙ ap (λ (m : List Descriptor). take 64 (drop (64 * j - (64 * i + 64)) m)) (drop_put (64 * i) (64 * i + 64) ts y (omega arith) room (omega (arith, long)))
+          ∙ table_behind (64 * i + 64) j ts (omega arith)
+      go j other false q =
+          let before : j ≤ i = ltb-false i j q in
+          let apart : j + 1 ≤ i = omega (arith, other_lt i j other before) in
+          sym (table_before (64 * i) j (put_mid (64 * i) part ts y) (omega (arith, put_size)) (omega arith))
+          ∙ ap (λ (m : List Descriptor). table_of m j) (take_put (64 * i) part ts y (omega arith))
+          ∙ table_before (64 * i) j ts (omega arith) (omega arith)
 
 pub kept-changed : (ts : List Descriptor) (i : ℕ) → Changed i (table_of ts i) ts ts
 kept-changed ts i = record { size = refl; here = refl; there = λ j other. refl }
