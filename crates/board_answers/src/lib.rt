@@ -18,7 +18,8 @@ pub struct Driver {
     pub distance: u8,
 }
 
-// The answers so far: the first unit that drives the address, if one does; whether it is an aborted fetch in any unit; and the joined lines.
+// The answers so far: the first unit that drives the address, if one does; whether it is an aborted fetch in any unit; and the joined lines. A
+// data byte that is not driven is 0, as in an answer: `joined_byte` of Board.antt joins the bytes alone.
 #[derive(Clone, Copy)]
 pub struct Joint {
     pub driver: Option<Driver>,

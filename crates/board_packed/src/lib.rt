@@ -8,7 +8,7 @@ ghost use Rattle.board_packed.specs.BoardPacked.{board_width, board_packed};
 use board_rules::BoardAnswer;
 use unit_stores::store;
 
-// Where the named unit stands, the bytes of an answer, and the byte that says that none is named.
+// Where the named unit stands, the bytes of an answer, and the byte that says that none is named, since callers in C read it.
 pub const NAMED_AT: usize = unit_packed::BYTES;
 
 pub const BYTES: usize = NAMED_AT + 1;

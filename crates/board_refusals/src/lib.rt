@@ -54,7 +54,7 @@ fn code_refusal(m: Command, read: bool) -> Option<Refusal>
     }
 }
 
-// What a cycle asks of every unit.
+// What a cycle asks of every unit. The status is tested and not made a `Purpose`: each answer is one of its cases, as `memory_cycle` says it.
 pub fn ask(c: Cycle) -> Asked
     ensures { result ≡ asking c }
 {

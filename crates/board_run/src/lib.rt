@@ -116,6 +116,7 @@ fn driving(registers: [Registers; Board::UNITS], count: usize, c: Cycle) -> Driv
 }
 
 // The selects of the first `count` units. A count is all that there is to ask: the selects are the bits of one number.
+// The place of a bit of sixteen is cast, as a unit's number is in `board_step`.
 fn selected(selects: u16, count: usize) -> Chosen
     requires { count ≤ 16 }
     ensures { (is_some result.first ≡ any_on count selects) × (result.several ≡ several_on count selects)
@@ -129,7 +130,8 @@ fn selected(selects: u16, count: usize) -> Chosen
 }
 
 // A request stands in a unit.
-// Of a slice it was proved too, and the run took 1.6 % more instructions: 465.8 to 473.5 a cycle of one unit, 1,144 to 1,163 of 16 (mixed).
+// Registers and a count, as in `driving`: a slice was proved too, and is no plainer, since the one call would cut it; and it took 1.6 % more
+// instructions.
 #[tactic(auto, unfolding(crate::specs::Plan::asks_from))]
 fn asks(registers: [Registers; Board::UNITS], count: usize) -> bool
     requires { count ≤ 16 }
@@ -206,7 +208,8 @@ fn plan(registers: [Registers; Board::UNITS], count: usize, b: BoardCycle) -> Pr
     Prepared { mask: 0, judged }
 }
 
-// What is decided of an undamaged unit in a cycle that is in range: refusals 2 and 1 need no test.
+// What is decided of an undamaged unit in a cycle that is in range. It is no `unit_decide::act` with a parameter: they differ in the tests of
+// refusals 2 and 1, and one function would carry both contracts.
 #[tactic(auto, unfolding(rules::specs::Step::decided))]
 fn act(r: Registers, d: Descriptor, c: Cycle) -> Decision
     requires { (damaged r ≡ false) × (out_of_range c ≡ false) }

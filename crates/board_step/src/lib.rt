@@ -13,7 +13,7 @@ use rules::Unit;
 use rules::refusal::Refusal;
 use unit_step::step::step as unit_after;
 
-// The units, judged.
+// The units, judged. The number of one is cast, here and in `step_all`, since it is proved to fit: `try_from` has an Err that cannot come.
 fn judge_all(units: &[Unit], c: BoardCycle) -> Judged
     requires { length units.now ≤ 16 }
     ensures { Known result c.cycle (seated units.now c.selects) }

@@ -85,9 +85,9 @@ pub fn moved(k: Control, p: Part, c: Cycle) -> Control
     let next = next_counter(p, k.dscr);
     let steps = (Unit::BASE_STEP <= c.offset) & (next == 0);
     Control {
-        mr: k.mr,
         sar: next_segment(k.sar, steps),
         dscr: next,
+        ..k
     }
 }
 

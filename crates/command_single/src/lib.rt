@@ -43,8 +43,8 @@ pub fn restarted(r: Registers, mr: u8) -> Registers
 {
     let control = Control {
         mr,
-        sar: r.control.sar,
         dscr: 0,
+        ..r.control
     };
     let cleared = with_vtr(with_control(r, control), 0);
     with_notes(cleared, false, false, false, false)
@@ -65,8 +65,7 @@ pub fn mode(r: Registers, c: Cycle) -> Decision
 {
     let k = Control {
         mr: c.byte,
-        sar: r.control.sar,
-        dscr: r.control.dscr,
+        ..r.control
     };
     programmed(r, c, r.control.mr, k)
 }
@@ -76,9 +75,8 @@ pub fn segment(r: Registers, c: Cycle) -> Decision
     ensures { result ≡ programmed r c r.control.sar (record { mr = r.control.mr; sar = c.byte % 64; dscr = r.control.dscr }) }
 {
     let k = Control {
-        mr: r.control.mr,
         sar: c.byte % Unit::SEGMENTS,
-        dscr: r.control.dscr,
+        ..r.control
     };
     programmed(r, c, r.control.sar, k)
 }
@@ -88,9 +86,8 @@ pub fn counter(r: Registers, c: Cycle) -> Decision
     ensures { result ≡ programmed r c r.control.dscr (record { mr = r.control.mr; sar = r.control.sar; dscr = c.byte % 4 }) }
 {
     let k = Control {
-        mr: r.control.mr,
-        sar: r.control.sar,
         dscr: c.byte % Unit::BYTES,
+        ..r.control
     };
     programmed(r, c, r.control.dscr, k)
 }

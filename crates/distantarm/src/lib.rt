@@ -4,6 +4,8 @@
 // parameters, a count stands beside its buffer, and a refusal is a number.
 #![tactic(auto)]
 
+ghost use Rattle.std.specs.Prelude.{◌≡◌};
+ghost use Rattle.rules.specs.Numbers.{number_of_outcome};
 ghost use Rattle.text.specs.Listed.{Listed};
 ghost use Rattle.distantarm.specs.Interface.{PoweredOn, Called, given, BoardCalled, board_given, RecordingStarted, CycleRecorded};
 
@@ -11,6 +13,16 @@ use rules::refusal::Refusal;
 use rules::{Cycle, Unit};
 use unit_bytes::cycle::cycled;
 use unit_bytes::snapshot;
+
+// The number of what refuses, and 0 where nothing does.
+fn number<T: Copy>(outcome: Result<T, Refusal>) -> u8
+    ensures { result ≡ number_of_outcome outcome }
+{
+    match outcome {
+        Ok(_) => 0,
+        Err(refusal) => refusal.into(),
+    }
+}
 
 // The unit at power-on: 0, and its bytes at the start of the buffer. A buffer that is too short gives NO_ROOM and is left as it was.
 #[tactic(auto, using(crate::proofs::Ends::powered))]
@@ -95,10 +107,7 @@ pub fn distantarm_board_cycle(
         byte,
         reset,
     };
-    match board_bytes::cycle(units, answer, count, c, selects) {
-        Ok(()) => 0,
-        Err(e) => e.into(),
-    }
+    number(board_bytes::cycle(units, answer, count, c, selects))
 }
 
 // The start of a recording: 0, the header of no record at the start of the buffer, and the count 0. A buffer that is too short for it gives 10 and
@@ -107,10 +116,7 @@ pub fn distantarm_record_start(trace: &mut [u8], count: &mut usize) -> u8
     ensures { RecordingStarted trace.old trace.new count.new result }
 {
     *count = 0;
-    match trace_writer::record_start(trace) {
-        Ok(_) => 0,
-        Err(refusal) => refusal.into(),
-    }
+    number(trace_writer::record_start(trace))
 }
 
 // One cycle more in a recording of `count` records: 0, its record behind them, the header of one record more, and one more in `count`. Where a
@@ -144,13 +150,9 @@ pub fn distantarm_record(
         byte,
         reset,
     };
-    match trace_writer::record_cycle(trace, *count, c) {
-        Ok(more) => {
-            *count = more;
-            0
-        }
-        Err(refusal) => refusal.into(),
-    }
+    let outcome = trace_writer::record_cycle(trace, *count, c);
+    *count = outcome.unwrap_or(*count);
+    number(outcome)
 }
 
 // The text of a trace, as mmurun prints it, and its length. A buffer that is shorter than text::listing::ROOM is left as it was, and the answer

@@ -1,4 +1,4 @@
-// Answers: all are made here but the acknowledge's (`unit_dispatch::status`). And the kind of an answer as a letter and a number.
+// Answers: all are made here. And the kind of an answer as a letter and a number.
 #![tactic(auto)]
 
 ghost use Rattle.std.specs.Prelude.{◌≡◌};
@@ -53,7 +53,7 @@ pub fn plain(kind: Kind, r: Registers, h: Change) -> Decision
     }
 }
 
-// A refusal: all as it was.
+// A refusal: all as it was. It takes any number, as a kind does (`rules::Kind`).
 #[tactic(auto, unfolding(rules::specs::Replies::refused))]
 pub fn refused(n: u8, r: Registers) -> Decision
     ensures { result ≡ refused n r }
@@ -78,7 +78,7 @@ pub fn letter(kind: Kind) -> u8
     }
 }
 
-// The number of a refusal, and 0 where nothing was refused.
+// The number of a refusal, and 0 where nothing was refused: no Option, since `number_of` says 0.
 pub fn number(kind: Kind) -> u8
     ensures { result ≡ number_of kind }
 {

@@ -12,7 +12,7 @@ const INPUT: usize = 1 + board_run::RECORD * board_run::MOST;
 
 const ROOM: usize = board_packed::BYTES * board_run::MOST;
 
-// The records run that often; the answers of the last run are left.
+// The records run that often; the answers of the last run are left. A twin of test_speed's: each program has one call to time.
 fn again(records: &[u8], count: u8, answers: &mut [u8]) -> usize {
     let mut cycles = 0;
     for _ in 0..RUNS {

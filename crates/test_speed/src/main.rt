@@ -8,7 +8,7 @@ use std::io::Write;
 // How often. The witness is told the same number.
 const RUNS: usize = 500;
 
-// The trace run that often; the answers of the last run are left.
+// The trace run that often; the answers of the last run are left. A twin of test_board_speed's: each program has one call to time.
 fn again(trace: &[u8], answers: &mut [u8]) -> Result<(), Refusal> {
     let mut outcome = Ok(());
     for _ in 0..RUNS {

@@ -48,7 +48,8 @@ pub fn shown<'a>(r: Reader<'a>) -> &'a [u8]
     part(r.trace, r.next)
 }
 
-// A reader of the trace, put to number n and asked once: what it gives, and its number after, at which it can be taken up again.
+// A reader of the trace, put to number n and asked once: what it gives, and its number after, at which it can be taken up again. It stays beside
+// `next`, as `shown_at` beside `shown`: docs/LIBRARY.md names them.
 pub fn read_at(trace: &[u8], n: usize) -> Found
     ensures { Finds trace.now n result }
 {

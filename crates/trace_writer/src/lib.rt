@@ -18,7 +18,7 @@ use trace_records::{DMA, RESET, SELECT};
 use unit_dispatch::refusals::out_of_range;
 use unit_stores::store;
 
-// The header of a trace of so many records.
+// The header of a trace of so many records. Version and count are cast, since both are proved to fit: `try_from` has an Err that cannot come.
 fn put_header(trace: &mut [u8], count: usize)
     requires { (head_size ≤ length trace.old) × (count < word_values) }
     ensures { trace.new ≡ sets trace.old 0 (head_bytes format1 count) }

@@ -16,7 +16,8 @@ pub fn step_in_place(u: &mut Unit, c: Cycle) -> Answer
     s.answer
 }
 
-// A unit kept in a local and lent for one cycle: the same for callers that keep a unit by value.
+// A unit kept in a local and lent for one cycle: the same for callers that keep a unit by value. Both stay beside `step`: document 01 names the
+// first form, and docs/LIBRARY.md both.
 pub fn step_by_lending(u: Unit, c: Cycle) -> Stepped
     ensures { result ≡ stepped u c }
 {
