@@ -96,7 +96,8 @@ fn kind_by(reset: bool, acknowledge: bool, command: bool, k: Kind) -> Kind
     }
 }
 
-// The board's answer to a cycle; `command`: at least one unit takes it as a selected command.
+// The board's answer to a cycle; `command`: at least one unit takes it as a selected command. Of the status one code is asked, as `acknowledge`
+// of the definitions says it.
 pub fn told(t: Joint, c: Cycle, command: bool) -> BoardAnswer
     ensures { result ≡ told t c command }
 {

@@ -71,8 +71,8 @@ fn cycle_of(bytes: &[u8; RECORD]) -> BoardCycle
     }
 }
 
-// Flags set in every descriptor of unit i. `unit_step::table::with_flags_in_all` takes a table of its own; here the tables of all units are one
-// array beside the registers that are scanned: docs/PERFORMANCE.md has 1,330 instructions a cycle of 16 units, and 3,531 with units in bytes.
+// Flags set in every descriptor of unit i. `unit_step::table::with_flags_in_all` takes a table of its own, and `unit_bytes` has bytes: what the
+// three share is the change of one descriptor, and around it are three lines each.
 fn raised(tables: [Descriptor; ALL], i: usize, mask: u8) -> [Descriptor; ALL]
     requires { i + 1 ≤ 16 }
     ensures { RaisedIn mask i tables result }
@@ -167,7 +167,7 @@ fn first_verdict(first: Option<u8>, refusal: Option<Refusal>) -> Option<Verdict>
     }
 }
 
-// What is to be done for a cycle that is in range, by units that are undamaged.
+// What is to be done for a cycle that is in range, by units that are undamaged. The status is tested as `memory_cycle` and `PlanIs` say it.
 fn plan(registers: [Registers; Board::UNITS], count: usize, b: BoardCycle) -> Prepared
     requires { count ≤ 16 }
     ensures { PlanIs registers count b.cycle b.selects result.mask result.judged }

@@ -8,8 +8,8 @@ use rules::{Control, Cycle, Faults, Fetched, Notes, Registers, Unit};
 use rules_flags::flag_if;
 use rules_registers::{with_notes, with_vtr};
 
-// What there is to record: a violation's flags, or PWW, or 0. The findings come one by one, here and in `checked`, as the notes do in
-// `rules_registers::with_notes`, for the same reason.
+// What there is to record: a violation's flags, or PWW, or 0, which is the byte with no flag and no missing value. The findings come one by one,
+// here and in `checked`: docs/DESIGN-PASS.md has what a run takes with one struct of them.
 #[tactic(auto, unfolding(rules::specs::Recording::event_of))]
 pub fn event_of(dma: bool, rights: u8, long: bool, violation: bool, warning: bool) -> u8
     ensures { result ≡ event_of dma (record { rights = rights; long = long; violation = violation; warning = warning }) }

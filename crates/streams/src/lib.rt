@@ -8,7 +8,7 @@ ghost use Rattle.std.specs.Io.KnownBytes.{Appends, Consumes, IsAtEnd};
 use std::io;
 use std::io::{Read, Write};
 
-// No program reads more of its input than this.
+// No program reads more of its input than this, into an array: nothing here takes memory from a heap.
 pub const LARGE: usize = 65536;
 
 // What `read_full` gives: how many bytes it put at the start of the buffer, and the read that failed, if one did. It is no io::Result<usize>,

@@ -17,7 +17,7 @@ fn bit_text(on: bool) -> u8
 }
 
 impl Line<'_> {
-    // A kind's letter, and its number unless that is 0.
+    // A kind's letter, and its number unless that is 0, as the two bytes of a packed answer have them.
     #[tactic(auto, unfolding(crate::specs::Fields::kind_text))]
     pub fn put_kind(&mut self, letter: u8, number: u8)
         requires { HasRoom self.old kind_room }
@@ -41,7 +41,7 @@ impl Line<'_> {
         self.put(b' ');
     }
 
-    // The address lines, or dashes.
+    // The address lines, or dashes. Mark and bytes apart, here and below, as in a packed answer: an Option would be made to be taken apart at once.
     #[tactic(auto, unfolding(crate::specs::Fields::address_text))]
     pub fn put_address(&mut self, driven: bool, high: u8, low: u8)
         requires { HasRoom self.old address_room }

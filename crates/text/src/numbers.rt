@@ -22,7 +22,7 @@ impl Line<'_> {
         self.at = put(self.out, self.at, b);
     }
 
-    // A decimal digit where the number reaches its place.
+    // A decimal digit where the number reaches its place. It is cast, since it is proved to fit.
     fn put_place(&mut self, reached: bool, d: usize)
         requires { HasRoom self.old 1 × (d < 10) }
         ensures { Puts self.old 1 (place_text reached d) self.new }

@@ -29,7 +29,8 @@ pub fn act(r: Registers, d: Descriptor, c: Cycle) -> Decision
     status::by_status(r, d, c)
 }
 
-// Whose descriptor a cycle looks at, modulo 64: that at SAR in a command, else the segment's.
+// Whose descriptor a cycle looks at, modulo 64: that at SAR in a command, else the segment's. The status is tested against its constant, as
+// `place_of` of the definitions says it.
 #[tactic(auto, unfolding(rules::specs::Step::place_of))]
 pub fn place_of(r: Registers, c: Cycle) -> u8
     ensures { result ≡ place_of r c }
