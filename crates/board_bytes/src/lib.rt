@@ -42,7 +42,8 @@ fn held_registers(unit: &[u8]) -> Registers
 
 // The first `count` units, judged. `board_step` has this loop and the next one by value; they are no generic one, which is no plainer: a trait of
 // both would have two views of a unit, since strange notes are judged as `held_in` and stepped as `unit_in`, and `Boarded` tells every byte.
-// Bytes and a count, no slice of units: `seats_in` takes both, and by the slice's length the bound would still stand here, of the length.
+// Bytes and a count, no slice of units: `seats_in` takes both, and by the slice's length the bound would still stand here, of the length. A unit's
+// number is cast, here and below, as in `board_step`. Cycle and selects go to `cycle` apart: docs/LIBRARY.md names it so, and C hands them over so.
 fn judge_all(units: &[u8], count: usize, c: BoardCycle) -> Judged
     requires { (count ≤ 16) × (unit_size * count ≤ length units.now) }
     ensures { Known result c.cycle (seats_in units.now count c.selects) }

@@ -26,7 +26,8 @@ pub fn fits(line: &[u8], form: &[u8]) -> bool {
     line.len() == form.len() && line.iter().zip(form).all(|(&b, &f)| stands(b, f))
 }
 
-// The numbers of a line of the form, of two digits each. The line's letter is no digit of theirs.
+// The numbers of a line of the form, of two digits each. The line's letter is no digit of theirs. A number of two digits is cast, since it is proved
+// to fit.
 pub fn numbers<const N: usize>(line: &[u8], form: &[u8]) -> Option<[u8; N]> {
     if !fits(line, form) {
         return None;

@@ -19,7 +19,8 @@ fn put_descriptor(unit: &mut Unit, place: u8, d: Descriptor) {
     }
 }
 
-// Steps the unit in place by the cycle of a `C` line, and shows it with a descriptor: that at SAR, as it stood, at status 3, else the segment's.
+// Steps the unit in place by the cycle of a `C` line, and shows it with a descriptor: that at SAR, as it stood, at status 3, else the segment's: its
+// status is tested as `unit_decide::place_of` does.
 fn step<W: Write>(out: &mut W, unit: &mut Unit, c: Cycle) -> io::Result<()> {
     let place = if c.status == Unit::COMMAND {
         unit.registers.control.sar
