@@ -7,7 +7,8 @@ ghost use Rattle.board_rules.specs.Board.{seen_by};
 
 use rules::{Answer, Cycle, Unit};
 
-// A board. Units past the count are looked at by nothing.
+// A board. Units past the count are looked at by nothing. The count stands beside the units, since the rules and the theorems speak of those past
+// it.
 #[derive(Clone, Copy)]
 pub struct Board {
     pub units: [Unit; Board::UNITS],
@@ -36,7 +37,7 @@ pub struct BoardStepped {
 }
 
 impl Board {
-    // The most units of a board, as a length and as a count.
+    // The most units of a board, as a length and as a count (cast, since a constant takes no `From`).
     pub const UNITS: usize = 16;
 
     pub const MOST: u8 = Board::UNITS as u8;

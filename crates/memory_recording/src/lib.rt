@@ -31,7 +31,7 @@ pub fn bus_status(c: Cycle) -> u8
     c.status % Unit::STATUSES | flag_if(c.read, Unit::READ) | flag_if(c.normal, Unit::NORMAL)
 }
 
-// No primary flag stands: all is stored, and the unit asks.
+// No primary flag stands: all is stored, and the unit asks. Written out field by field as in `rules_registers`, for the same reason.
 #[tactic(auto, unfolding(rules::specs::Recording::first_entry))]
 pub fn first_entry(r: Registers, c: Cycle, event: u8) -> Registers
     ensures { result ≡ first_entry r c event }

@@ -29,7 +29,7 @@ pub fn touched_by(sup: bool, d: Descriptor, c: Cycle) -> Change
     Change::Put(touched(d, c))
 }
 
-// ISN and IOFF stored, and hold set, where they are.
+// ISN and IOFF stored, and hold set, where they are. Written out field by field as in `rules_registers`, for the same reason.
 #[tactic(auto, unfolding(rules::specs::Memory::noted))]
 pub fn noted(r: Registers, stores: bool, holds: bool, c: Cycle) -> Registers
     ensures { result ≡ noted r stores holds c }

@@ -208,7 +208,8 @@ impl Descriptor {
 }
 
 impl Unit {
-    // ---- sizes: how many descriptors, as a length and as a number of segments, and how many bytes one has for the commands
+    // ---- sizes: how many descriptors, as a length and as a number of segments (cast, since a constant takes no `From`), and how many bytes one has
+    // for the commands
     pub const DESCRIPTORS: usize = 64;
 
     pub const SEGMENTS: u8 = Unit::DESCRIPTORS as u8;
