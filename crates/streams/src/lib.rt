@@ -13,7 +13,7 @@ pub const LARGE: usize = 65536;
 
 // What `read_full` gives: how many bytes it put at the start of the buffer, and the read that failed, if one did. It is no io::Result<usize>,
 // since what was read before a failure is used, too.
-#[derive(Drop)]
+#[derive(Clone, Copy)]
 pub struct Taken {
     pub count: usize,
     pub outcome: io::Result<()>,

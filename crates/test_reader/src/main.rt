@@ -8,7 +8,7 @@ use rules::refusal::Refusal;
 use rules::{Answer, Unit};
 use std::io;
 use std::io::Write;
-use test_lines::show;
+use test_lines::show::{Lossy, line_of};
 use trace_header::RECORD;
 use trace_reader::{read_at, shown_at};
 use trace_records::count;
@@ -27,12 +27,14 @@ fn head<W: Write>(out: &mut W, trace: &[u8]) -> io::Result<()> {
     }
 }
 
-// The line of record n.
+// The line of record n. It is made as record 0's, and the number is put in the 0's place.
 fn line<W: Write>(out: &mut W, n: usize, a: Answer) -> io::Result<()> {
+    let (line, end) = line_of(&unit_packed::packed(a));
     streams::print_decimal(out, n as u64)?;
-    write!(out, " ")?;
-    show::answer(out, &unit_packed::packed(a))?;
-    writeln!(out)
+    if 1 < end {
+        streams::write_all(out, &line[1..end])?;
+    }
+    Ok(())
 }
 
 // Every record that the reader gives and shows, by its own number, at which it is asked again.
@@ -63,5 +65,5 @@ fn whole<W: Write>(out: &mut W, trace: &[u8]) -> io::Result<()> {
 fn main(rt: HostRuntime) {
     let mut trace = [0; streams::LARGE];
     let n = streams::read_full(&mut rt.stdin(), &mut trace).count;
-    let _ = whole(&mut rt.stdout(), &trace[..n]);
+    let _ = whole(&mut Lossy(rt.stdout()), &trace[..n]);
 }

@@ -10,7 +10,7 @@ use lines::Line;
 use rules::refusal::Refusal;
 use std::io;
 use std::io::Write;
-use test_lines::show::other;
+use test_lines::show::{Lossy, other};
 use trace_header::{HEAD, RECORD};
 use trace_writer::{record_cycle, record_start};
 
@@ -86,7 +86,7 @@ fn obey<W: Write>(out: &mut W, given: &mut Given, line: &[u8]) -> io::Result<()>
 
 // Before any line the buffer has no bytes. What fails is not told: the program ends as ever.
 fn main(rt: HostRuntime) {
-    let mut out = rt.stdout();
+    let mut out = Lossy(rt.stdout());
     let mut given = lend(0, 0);
     let _ = test_lines::each_line(&mut rt.stdin(), |line| obey(&mut out, &mut given, line));
 }

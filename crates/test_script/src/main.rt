@@ -9,7 +9,7 @@ use lines::Line;
 use rules::{Cycle, Descriptor, Unit};
 use std::io;
 use std::io::Write;
-use test_lines::show::other;
+use test_lines::show::{Lossy, other};
 use unit_lent::step_in_place;
 
 // Puts the descriptor of a `D` line.
@@ -44,7 +44,7 @@ fn obey<W: Write>(out: &mut W, unit: &mut Unit, line: &[u8]) -> io::Result<()> {
 
 // What fails is not told: the program ends as ever.
 fn main(rt: HostRuntime) {
-    let mut out = rt.stdout();
+    let mut out = Lossy(rt.stdout());
     let mut unit = Unit::power_on();
     let _ = test_lines::each_line(&mut rt.stdin(), |line| obey(&mut out, &mut unit, line));
 }
