@@ -45,7 +45,16 @@ joined_turn t i x xs =
     let trap = or_assoc t.trap x.trap (some_of (λ (y : Answer). y.trap) xs) in
     let drives = or_assoc t.drives x.drives (some_of (λ (y : Answer). y.drives) xs) in
     let byte = bits.or_assoc t.byte x.byte (joined_byte xs) in
-    λ j. record { driver = driver j; aborted = aborted j; sup = sup j; trap = trap j; drives = drives j; byte = byte j }
+    λ j. record {
+      driver = driver j;
+      block = t.block;
+      distance = t.distance;
+      aborted = aborted j;
+      sup = sup j;
+      trap = trap j;
+      drives = drives j;
+      byte = byte j;
+    }
 
 -- a unit that shows its request and nothing else
 pub quiet_turn : (t : Joint) (i : ℕ) (request : Bool) → joining t i (silent Ignored request) ≡ quietly t request
@@ -55,8 +64,8 @@ quiet_turn t i request = rw (or_none t.driver, or-false t.aborted, or-false t.su
 -- what is kept of the unit that drives is what the rules say of it, k being the kind where nobody does
 record Kept (o : Optional Driver) (k : Kind) (x : Answer) (n : Named) : Type 0 where
   pub kind : kind_in o k ≡ x.kind
-  pub address : address_in o ≡ x.address
-  pub distance : distance_in o ≡ x.distance
+  pub address : address_in o 0 ≡ x.address
+  pub distance : distance_in o 0 ≡ x.distance
   pub named : named_in o ≡ n
 
 kept : (k : Kind) (i : ℕ) (xs : List Answer) → Kept (driver_in i xs) k (driver (silent k false) xs) (driver_from i xs)
@@ -105,8 +114,10 @@ module _ (c : Cycle) (s : Seat) (ss : List Seat) (a : Every (λ z. Accepted (ans
       let one = kept (nobody_drives xs) 0 xs in
       let two = kept Ignored 0 xs in
       let kind = ap (λ (b : Bool). kind_in t.driver (nobody_in b)) aborted ∙ ap (λ (o : Optional Driver). kind_in o (nobody_drives xs)) driver ∙ one.kind in
-      let address = ap address_in driver ∙ two.address in
-      let distance = ap distance_in driver ∙ two.distance in
+      let address =
+      ap (λ (w : Joint). address_in t.driver w.block) e ∙ ap (λ (o : Optional Driver). address_in o 0) driver ∙ two.address in
+      let distance =
+      ap (λ (w : Joint). distance_in t.driver w.distance) e ∙ ap (λ (o : Optional Driver). distance_in o 0) driver ∙ two.distance in
       let named = ap named_in driver ∙ two.named in
       let sup = sym (or-false t.sup) ∙ ap (λ (w : Joint). w.sup) e in
       let trap = sym (or-false t.trap) ∙ ap (λ (w : Joint). w.trap) e in

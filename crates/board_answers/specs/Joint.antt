@@ -3,7 +3,6 @@ use Rattle.std.specs.Prelude.{Bool, false, cond, ◌||◌, List, [], ◌∷◌, 
 use Rattle.std.specs.Prelude.{Option as Optional}
 use Rattle.std.specs.Option.{option_or}
 use Rattle.std.specs.Int.Bits.{bit_or}
-use Rattle.rules.specs.Replies.{off}
 use Rattle.rules.specs.declared.Address.{Address}
 use Rattle.rules.specs.declared.Answer.{Answer}
 use Rattle.rules.specs.declared.Cycle.{Cycle}
@@ -18,7 +17,7 @@ use Rattle.board_answers.specs.declared.Joint.{Joint}
 
 -- no answer yet
 abbrev pub nothing : Joint
-nothing = record { driver = None; aborted = false; sup = false; trap = false; drives = false; byte = 0 }
+nothing = record { driver = None; block = 0; distance = 0; aborted = false; sup = false; trap = false; drives = false; byte = 0 }
 
 -- unit i by its answer, where it drives the address
 abbrev pub driving : (i : ℕ) → Answer → Optional Driver
@@ -28,6 +27,8 @@ driving i x = cond (on_lines x) (Some (record { unit = i; kind = x.kind; address
 unfoldable pub joining : Joint → (i : ℕ) → Answer → Joint
 joining t i x = record {
   driver = option_or t.driver (driving i x);
+  block = t.block;
+  distance = t.distance;
   aborted = t.aborted || is_aborted x.kind;
   sup = t.sup || x.sup;
   trap = t.trap || x.trap;
@@ -37,7 +38,16 @@ joining t i x = record {
 
 -- one unit more that shows its request and nothing else
 abbrev pub quietly : Joint → (request : Bool) → Joint
-quietly t request = record { driver = t.driver; aborted = t.aborted; sup = t.sup; trap = t.trap || request; drives = t.drives; byte = t.byte }
+quietly t request = record {
+  driver = t.driver;
+  block = t.block;
+  distance = t.distance;
+  aborted = t.aborted;
+  sup = t.sup;
+  trap = t.trap || request;
+  drives = t.drives;
+  byte = t.byte;
+}
 
 -- What it comes to
 
@@ -48,13 +58,13 @@ abbrev pub kind_in : Optional Driver → (nobody : Kind) → Kind
 kind_in None nobody = nobody
 kind_in (Some d) nobody = d.kind
 
-abbrev pub address_in : Optional Driver → Address
-address_in None = off
-address_in (Some d) = d.address
+abbrev pub address_in : Optional Driver → (block : ℕ) → Address
+address_in None block = record { driven = false; block = block }
+address_in (Some d) block = d.address
 
-abbrev pub distance_in : Optional Driver → ℕ
-distance_in None = 0
-distance_in (Some d) = d.distance
+abbrev pub distance_in : Optional Driver → (undriven : ℕ) → ℕ
+distance_in None undriven = undriven
+distance_in (Some d) undriven = d.distance
 
 abbrev pub named_in : Optional Driver → Named
 named_in o = option_map (λ d. d.unit) o
@@ -63,12 +73,12 @@ abbrev pub told : Joint → Cycle → (command : Bool) → BoardAnswer
 told t c command = record {
   answer = record {
     kind = kind_by c.reset (acknowledge c) command (kind_in t.driver (nobody_in t.aborted));
-    address = address_in t.driver;
+    address = address_in t.driver t.block;
     sup = t.sup;
     trap = t.trap;
     drives = t.drives;
     byte = t.byte;
-    distance = distance_in t.driver;
+    distance = distance_in t.driver t.distance;
   };
   named = named_in t.driver;
 }
@@ -84,6 +94,8 @@ driver_in i (x ∷ xs) = option_or (driving i x) (driver_in (suc i) xs)
 unfoldable pub ahead : Joint → (i : ℕ) → List Answer → Joint
 ahead t i xs = record {
   driver = option_or t.driver (driver_in i xs);
+  block = t.block;
+  distance = t.distance;
   aborted = t.aborted || some_of (is_kind Aborted) xs;
   sup = t.sup || some_of (λ x. x.sup) xs;
   trap = t.trap || some_of (λ x. x.trap) xs;

@@ -18,11 +18,14 @@ pub struct Driver {
     pub distance: u8,
 }
 
-// The answers so far: the first unit that drives the address, if one does; whether it is an aborted fetch in any unit; and the joined lines. A
-// data byte that is not driven is 0, as in an answer: `joined_byte` of Board.antt joins the bytes alone.
+// The answers so far: the first unit that drives the address, if one does, and the block and the distance that are shown where none does;
+// whether it is an aborted fetch in any unit; and the joined lines. A data byte that is not driven is 0, as in an answer: `joined_byte` of
+// Board.antt joins the bytes alone. A board's undriven block and distance are 0 too; they are no constants, since callers always could hand any.
 #[derive(Clone, Copy)]
 pub struct Joint {
     pub driver: Option<Driver>,
+    pub block: u16,
+    pub distance: u8,
     pub aborted: bool,
     pub sup: bool,
     pub trap: bool,
@@ -36,6 +39,8 @@ pub fn nothing() -> Joint
 {
     Joint {
         driver: None,
+        block: 0,
+        distance: 0,
         aborted: false,
         sup: false,
         trap: false,
@@ -68,6 +73,7 @@ pub fn join(t: Joint, i: u8, x: Answer) -> Joint
         trap: t.trap | x.trap,
         drives: t.drives | x.drives,
         byte: t.byte | x.byte,
+        ..t
     }
 }
 
@@ -108,9 +114,9 @@ pub fn told(t: Joint, c: Cycle, command: bool) -> BoardAnswer
             pick(t.aborted, Kind::Aborted, Kind::Ignored),
             Address {
                 driven: false,
-                block: 0,
+                block: t.block,
             },
-            0,
+            t.distance,
         ),
     };
     BoardAnswer {

@@ -2,27 +2,34 @@
 -- Assumes nothing.
 use mathlib.Core.Path.{◌≡◌, refl, sym, ap, ◌∙◌}
 use mathlib.Core.Bool.{Bool, true, false}
-use mathlib.Core.List.{List, [], map}
+use mathlib.Core.List.{List, [], ◌∷◌, map}
 use mathlib.Core.Option
-use mathlib.Core.Option.{Option, none}
-use Prim.Native.Nat.{ℕ, ◌≤◌, ◌<◌}
+use mathlib.Core.Option.{Option, none, some}
+use Prim.Native.Nat.{ℕ, suc, ◌≤◌, ◌<◌}
 use native.Mathlib.Omega.{arith}
 use lib.ListN.{length}
 use lib.Seq.{sets}
+use Rattle.std.specs.Prelude.{Some, None}
+use Rattle.std.specs.Prelude.{Option as Optional}
 use Rattle.rules.specs.Kinds.{number_of, number_in}
+use Rattle.rules.specs.Refusals.{damaged, out_of_range}
+use Rattle.rules.specs.declared.Cycle.{Cycle}
 use Rattle.rules.specs.declared.Kind.{Kind}
 use Rattle.rules.specs.declared.Kind.TheVariants.{Reset, Acknowledge, Command, Aborted, Translated, Passed, Ignored, Refused}
 use Rattle.rules.specs.declared.Unit.{Unit}
 use Rattle.unit_stores.specs.Put.{NO_ROOM}
 use Rattle.unit_bytes.specs.Snapshot.{unit_in}
-use Rattle.board_rules.specs.Board.{Seat, seated, answer_of, nobodys, Refusal, wrong_count, verdict, refusing, seats_answer, board_answer}
+use Rattle.theorems_runs.specs.Refusal.{earliest, unlisted, wrong_way}
+use Rattle.board_rules.specs.Board.{Seat, seated, seen_by, answer_of, nobodys, Refusal, wrong_count, verdict, refusing, seats_answer, board_answer}
 use Rattle.board_rules.specs.declared.BoardAnswer.{BoardAnswer}
 use Rattle.board_rules.specs.declared.BoardCycle.{BoardCycle}
+use Rattle.theorems_boards.specs.Numbers.{seat_number, lowest_from, own_of}
 use Rattle.theorems_boards.proofs.Lists.{seats_length}
 use Rattle.theorems_boards.proofs.Live.{answer_right, answer_wrong}
 use Rattle.theorems_boards.proofs.Numbers.{verdict_none, seats_number}
-use Rattle.board_refusals.specs.Judged.{refuses, refusal_in}
+use Rattle.board_refusals.specs.Judged.{by_number, given, refuses, refusal_by, refusal_in}
 use Rattle.board_refusals.specs.declared.Judged.{Judged}
+use Rattle.board_refusals.specs.declared.Verdict.{Verdict}
 use Rattle.board_refusals.proofs.Laws.{Known}
 use Rattle.board_answers.specs.Joint.{nothing, told, ahead}
 use Rattle.board_answers.specs.declared.Joint.{Joint}
@@ -43,6 +50,31 @@ no-number Passed e = refl
 no-number Ignored e = refl
 no-number (Refused n) e = let z : ◌≡◌ {A = ℕ} 0 1 = cc in absurd (omega arith)
 
+-- A number that a board's units give: 1 to 4, 12 or 13
+
+abbrev pub BoardsNumber : ℕ → Type 0
+BoardsNumber n = (1 ≤ n) × (n ≤ 13) × (4 < n → 12 ≤ n)
+
+earliest_numbers : (two one three four : Bool) (n : ℕ) → earliest two one three four ≡ some n → BoardsNumber n
+earliest_numbers true one three four n e = let q : 2 ≡ n = cc in (omega arith, omega arith, omega arith)
+earliest_numbers false true three four n e = let q : 1 ≡ n = cc in (omega arith, omega arith, omega arith)
+earliest_numbers false false true four n e = let q : 3 ≡ n = cc in (omega arith, omega arith, omega arith)
+earliest_numbers false false false true n e = let q : 4 ≡ n = cc in (omega arith, omega arith, omega arith)
+earliest_numbers false false false false n e = let z : ◌≡◌ {A = ℕ} 0 1 = cc in absurd (omega arith)
+
+own_numbers : (c : Cycle) (i : ℕ) (ss : List Seat) (r : Refusal) → some r ≡ lowest_from i (map (seat_number c) ss) → BoardsNumber r.number
+unfolding lowest_from
+own_numbers c i [] r e = let z : ◌≡◌ {A = ℕ} 0 1 = cc in absurd (omega arith)
+own_numbers c i (s ∷ ss) r e = go (seat_number c s) refl e (own_numbers c (suc i) ss r)
+  where
+    go : (o : Option ℕ) → seat_number c s ≡ o → some r ≡ lowest_from i (o ∷ map (seat_number c) ss)
+        → (some r ≡ lowest_from (suc i) (map (seat_number c) ss) → BoardsNumber r.number) → BoardsNumber r.number
+    go none q e later = later e
+    go (some n) q e later =
+        let same : n ≡ r.number = cc in
+        rw (← same)
+        (earliest_numbers (damaged s.unit.registers) (out_of_range (seen_by s.select c)) (unlisted (seen_by s.select c)) (wrong_way (seen_by s.select c)) n q)
+
 -- A cycle with room, its count being good
 
 module _ (l : List ℕ) (count : ℕ) (c : BoardCycle) (j : Judged) (k : Known j c.cycle (seats_in l count c.selects)) where
@@ -56,6 +88,15 @@ module _ (l : List ℕ) (count : ℕ) (c : BoardCycle) (j : Judged) (k : Known j
     q ∙ refused-answer j c.cycle seats k e,
     sym (ap (λ (v : Option Refusal). bytes_by false v l count c) (verdict_by_lem j c.cycle seats k true e)),
   )
+
+  -- by a number of a unit, or by one that is nobody's
+  pub refused_numbers : BoardsNumber (refusal_in j).number
+  refused_numbers = go j.own j.clash k.own
+    where
+      go : (o : Optional Verdict) (t : Bool) → given o ≡ own_of c.cycle seats → BoardsNumber (refusal_by o t).number
+      go None true e = (omega arith, omega arith, omega arith)
+      go None false e = (omega arith, omega arith, omega arith)
+      go (Some v) t e = own_numbers c.cycle 0 seats (by_number v) e
 
   -- it does not, so no notes are strange
   pub stepped_ends : (a : BoardAnswer) (m : List ℕ) (t : Joint) → refuses j c.cycle.read ≡ false → 1 ≤ count

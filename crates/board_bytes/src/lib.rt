@@ -2,8 +2,8 @@
 // touched, and each is stepped where it stands, so nobody copies 4 KB a cycle.
 #![tactic(auto)]
 
-ghost use Rattle.std.specs.Prelude.{◌≡◌, map, [], ◌*◌, ◌≤◌, length};
-ghost use Rattle.rules.specs.Numbers.{number_of_outcome};
+ghost use Rattle.std.specs.Prelude.{◌≡◌, map, [], ◌*◌, ◌<◌, ◌≤◌, length};
+ghost use Rattle.rules.specs.Numbers.{refusal_number, number_of_outcome};
 ghost use Rattle.unit_bytes.specs.Snapshot.{unit_size, unit_in};
 ghost use Rattle.board_rules.specs.Board.{seated, answer_of};
 ghost use Rattle.board_answers.specs.Joint.{nothing, ahead};
@@ -78,6 +78,22 @@ fn step_all(units: &mut [u8], count: usize, c: BoardCycle) -> Joint
     joint
 }
 
+// The refusal of a number that a board gives of its units. A verdict holds any number, as `board_refusals` takes it, and theirs are these six.
+// No `TryFrom`, which would have an Err that cannot come.
+fn refusal_of(number: u8) -> Refusal
+    requires { (1 ≤ number) × (number ≤ 13) × (4 < number → 12 ≤ number) }
+    ensures { refusal_number result ≡ number }
+{
+    match number {
+        1 => Refusal::OutOfRange,
+        2 => Refusal::Damaged,
+        3 => Refusal::Unlisted,
+        4 => Refusal::WrongWay,
+        12 => Refusal::TwoDrive,
+        _ => Refusal::SeveralRead,
+    }
+}
+
 // One cycle: the packed answer in the one buffer, the units after the cycle in the other, and the refusal, if it is one. Where a buffer is too
 // short it refuses too, and both are left as they were; a wrong count does not ask the units' room.
 pub fn cycle(
@@ -104,9 +120,10 @@ pub fn cycle(
     let b = BoardCycle { cycle: c, selects };
     let j = judge_all(units, count, b);
     if let Some(v) = board_refusals::refuses(j, c.read) {
-        let a = board_refusals::refused(v.refusal.into(), v.named, j.stood);
+        let reason = refusal_of(v.number);
+        let a = board_refusals::refused(v.number, v.named, j.stood);
         board_packed::put(answer, 0, a);
-        return Err(v.refusal);
+        return Err(reason);
     }
     let joint = step_all(units, count, b);
     board_packed::put(answer, 0, board_answers::told(joint, c, j.command));

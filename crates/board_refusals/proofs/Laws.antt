@@ -5,7 +5,7 @@ use mathlib.Core.Bool.{Bool, true, false, not, cond, ◌&&◌, ◌||◌, or-fals
 use mathlib.Core.List.{List, [], ◌∷◌, map}
 use mathlib.Core.Option.{Option, none, some}
 use Rattle.std.specs.Option.{option_or}
-use Rattle.std.specs.Prelude.{Some, None, is_some}
+use Rattle.std.specs.Prelude.{Some, None, is_some, option_map}
 use Rattle.std.specs.Prelude.{Option as Optional}
 use Prim.Native.Nat.{ℕ, suc}
 use native.Mathlib.Omega.{arith}
@@ -18,10 +18,6 @@ use Rattle.rules.specs.declared.Command.{Command}
 use Rattle.rules.specs.declared.Command.TheVariants.{Mr, Sar, Dscr, Show, Entry, Act, Unlisted}
 use Rattle.rules.specs.declared.Cycle.{Cycle}
 use Rattle.rules.specs.declared.Registers.{Registers}
-use Rattle.rules.specs.declared.refusal.Refusal.{Refusal as Reason}
-use Rattle.rules.specs.declared.refusal.Refusal.TheVariants.{OutOfRange, Damaged, NoTrace, OtherVersion, TooMany, WrongLength, PastTheCount}
-use Rattle.rules.specs.declared.refusal.Refusal.TheVariants.{WrongWay, NoRoomToRecord, WrongCount, TwoDrive, SeveralRead, NoRoom}
-use Rattle.rules.specs.declared.refusal.Refusal.TheVariants as reason
 use Rattle.board_rules.specs.Board.{Seat, seen_by, Refusal, some_of, two_of, requests, verdict}
 use Rattle.theorems_runs.specs.Cycles.{memory_cycle, listed, read_only}
 use Rattle.theorems_runs.specs.Refusal.{earliest}
@@ -29,7 +25,7 @@ use Rattle.theorems_runs.proofs.Codes.{is_show, is_act, is_listed, show-codes, a
 use Rattle.theorems_boards.specs.Numbers.{seat_number, lowest_from, own_of, seat_drives, seat_commanded, in_order}
 use Rattle.theorems_boards.proofs.Lists.{two_and}
 use Rattle.theorems_boards.proofs.Numbers.{verdict_is}
-use Rattle.board_refusals.specs.Judged.{number_given, code_refusal, asking, own_refusal_of, own_number_of, own_verdict, given_or, given, unjudged, judging}
+use Rattle.board_refusals.specs.Judged.{code_refusal, asking, own_refusal_of, own_verdict, given_or, given, unjudged, judging}
 use Rattle.board_refusals.specs.Judged.{refuses, refusal_by, refusal_in, Judgement, two_ahead, ahead}
 use Rattle.board_refusals.specs.declared.Judged.{Judged}
 use Rattle.board_refusals.specs.declared.Verdict.{Verdict}
@@ -38,8 +34,8 @@ use Rattle.board_refusals.specs.declared.Verdict.{Verdict}
 
 -- the lowest of a unit and of those behind it, by the four conditions
 lowest_turn : (m : Command) (read two one command select : Bool) (i : ℕ) (os : List (Option ℕ))
-    → cond (eqb (cond two 2 (cond one 1 (cond (command && select) (number_given (code_refusal m read)) 0))) 0) (lowest_from (suc i) os)
-    (some (record { number = cond two 2 (cond one 1 (cond (command && select) (number_given (code_refusal m read)) 0)); named = Some i }))
+    → given_or (own_verdict i (cond two (Some 2) (cond one (Some 1) (cond (command && select) (option_map refusal_number (code_refusal m read)) None))))
+    (lowest_from (suc i) os)
     ≡ lowest_from i
     (earliest two one ((command && select) && not (is_listed m)) ((command && select) && (not read && is_show m || read && is_act m)) ∷ os)
 unfolding lowest_from
@@ -73,9 +69,7 @@ unfolding seen_by
 commanded_is c s = and-three (not c.reset) (eqb c.status 3) (cpu c) s.select
 
 module _ (i : ℕ) (c : Cycle) (s : Seat) (os : List (Option ℕ)) where
-  own-next : cond (eqb (own_number_of s.unit.registers s.select (asking c)) 0) (lowest_from (suc i) os)
-      (some (record { number = own_number_of s.unit.registers s.select (asking c); named = Some i }))
-      ≡ lowest_from i (seat_number c s ∷ os)
+  own-next : given_or (own_verdict i (own_refusal_of s.unit.registers s.select (asking c))) (lowest_from (suc i) os) ≡ lowest_from i (seat_number c s ∷ os)
   unfolding seen_by out_of_range
   own-next =
       let m : Command = command_of c.offset in
@@ -92,37 +86,10 @@ module _ (i : ℕ) (c : Cycle) (s : Seat) (os : List (Option ℕ)) where
 
 -- Each part of what is ahead
 
--- no reason has the number 0
-positive : (e : Reason) → eqb (refusal_number e) 0 ≡ false
-positive OutOfRange = refl
-positive Damaged = refl
-positive reason.Unlisted = refl
-positive WrongWay = refl
-positive NoTrace = refl
-positive OtherVersion = refl
-positive TooMany = refl
-positive WrongLength = refl
-positive PastTheCount = refl
-positive NoRoomToRecord = refl
-positive WrongCount = refl
-positive TwoDrive = refl
-positive SeveralRead = refl
-positive NoRoom = refl
-
-own_turn : (held : Optional Verdict) (own : Optional Reason) (i : ℕ) (later here : Option Refusal)
-    → cond (eqb (number_given own) 0) later (some (record { number = number_given own; named = Some i })) ≡ here
-    → given_or (option_or held (own_verdict i own)) later ≡ given_or held here
-own_turn (Some v) own i later here q = refl
-own_turn None None i later here q = q
-own_turn None (Some e) i later here q = rw (positive e) at q
-
--- a unit's own number is that of its reason
-own_is : (two one told : Bool) (o : Optional Reason)
-    → number_given (cond two (Some Damaged) (cond one (Some OutOfRange) (cond told o None))) ≡ cond two 2 (cond one 1 (cond told (number_given o) 0))
-own_is true one told o = refl
-own_is false true told o = refl
-own_is false false true o = refl
-own_is false false false o = refl
+own_turn : (held own : Optional Verdict) (later here : Option Refusal) → given_or own later ≡ here
+    → given_or (option_or held own) later ≡ given_or held here
+own_turn (Some v) own later here q = refl
+own_turn None own later here q = q
 
 two_turn : (p : Seat → Bool) (one two x : Bool) (s : Seat) (ss : List Seat) → x ≡ p s
     → two_ahead p (one || x) (two || (one && x)) ss ≡ two_ahead p one two (s ∷ ss)
@@ -142,11 +109,8 @@ pub judged_turn : (j : Judged) (i : ℕ) (c : Cycle) (s : Seat) (ss : List Seat)
 unfolding judging ahead some_of
 judged_turn j i c s ss =
     let r : Registers = s.unit.registers in
-    let number = own_is (damaged r) (out_of_range c) ((asking c).command && s.select) (asking c).refusal in
-    let own = own_turn j.own (own_refusal_of r s.select (asking c)) i (lowest_from (suc i) (map (seat_number c) ss))
-    (lowest_from i (seat_number c s ∷ map (seat_number c) ss))
-    (ap (λ (n : ℕ). cond (eqb n 0) (lowest_from (suc i) (map (seat_number c) ss)) (some (record { number = n; named = Some i }))) number
-    ∙ own-next i c s (map (seat_number c) ss)) in
+    let own = own_turn j.own (own_verdict i (own_refusal_of r s.select (asking c))) (lowest_from (suc i) (map (seat_number c) ss))
+    (lowest_from i (seat_number c s ∷ map (seat_number c) ss)) (own-next i c s (map (seat_number c) ss)) in
     let clash = two_turn (λ s. memory_cycle c && seat_drives c s) j.drives j.clash (memory_cycle c && seat_drives c s) s ss refl in
     let several = two_turn (seat_commanded c) j.command j.several ((asking c).command && s.select) s ss (commanded_is c s) in
     let command = or_assoc j.command ((asking c).command && s.select) (some_of (seat_commanded c) ss)

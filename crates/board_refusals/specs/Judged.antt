@@ -1,5 +1,5 @@
 -- What is known of a board's units while they are judged one after another, and what it comes to.
-use Rattle.std.specs.Prelude.{Bool, false, not, cond, ◌&&◌, ◌||◌, List, map, ℕ, eqb, Some, None, is_some, option_map}
+use Rattle.std.specs.Prelude.{Bool, false, not, cond, ◌&&◌, ◌||◌, List, map, ℕ, eqb, Some, None, is_some, unwrap_or, option_map}
 use Rattle.std.specs.Prelude.{Option as Optional}
 use Rattle.std.specs.Option.{option_or}
 use Rattle.std.proofs.Math.Option.{Option, none, some}
@@ -62,7 +62,7 @@ asking c = record {
   outside = out_of_range c;
   memory = memory_cycle c;
   command = not c.reset && eqb c.status 3 && cpu c;
-  refusal = code_refusal (command_of c.offset) c.read;
+  number = option_map refusal_number (code_refusal (command_of c.offset) c.read);
 }
 
 -- the cycle concerns a unit: a reset, an acknowledge, a command that it is selected for, or a memory cycle that it drives or that finds await,
@@ -75,20 +75,21 @@ concerns r select c q =
 
 -- a unit's own number, and 0 for none: 2, 1, then that of the command
 abbrev pub own_number_of : Registers → (select : Bool) → Asked → ℕ
-own_number_of r select q = cond (damaged r) 2 (cond q.outside 1 (cond (q.command && select) (number_given q.refusal) 0))
+own_number_of r select q = cond (damaged r) 2 (cond q.outside 1 (cond (q.command && select) (unwrap_or q.number 0) 0))
 
--- the same by its reason
-abbrev pub own_refusal_of : Registers → (select : Bool) → Asked → Optional Reason
+-- the same where there is one, each by its reason
+abbrev pub own_refusal_of : Registers → (select : Bool) → Asked → Optional ℕ
 own_refusal_of r select q =
-    cond (damaged r) (Some reason.Damaged) (cond q.outside (Some reason.OutOfRange) (cond (q.command && select) q.refusal None))
+    cond (damaged r) (Some (refusal_number reason.Damaged))
+    (cond q.outside (Some (refusal_number reason.OutOfRange)) (cond (q.command && select) q.number None))
 
 -- that of unit i
-abbrev pub own_verdict : (i : ℕ) → Optional Reason → Optional Verdict
-own_verdict i o = option_map (λ e. record { refusal = e; named = Some i }) o
+abbrev pub own_verdict : (i : ℕ) → Optional ℕ → Optional Verdict
+own_verdict i o = option_map (λ n. record { number = n; named = Some i }) o
 
 -- a verdict as the rules have it
 abbrev pub by_number : Verdict → Refusal
-by_number v = record { number = refusal_number v.refusal; named = v.named }
+by_number v = record { number = v.number; named = v.named }
 
 abbrev pub given_or : Optional Verdict → (later : Option Refusal) → Option Refusal
 given_or None later = later

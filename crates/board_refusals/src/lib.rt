@@ -1,7 +1,7 @@
 // Ticket 3's refusals: what a board refuses, judged from the registers of its units, one after another, before any unit is touched.
 #![tactic(auto)]
 
-ghost use Rattle.std.specs.Prelude.{◌≡◌, cond};
+ghost use Rattle.std.specs.Prelude.{◌≡◌, cond, unwrap_or};
 ghost use Rattle.std.proofs.Math.Option.{some, none};
 ghost use Rattle.board_rules.specs.Board.{refusing};
 ghost use Rattle.theorems_boards.specs.Numbers.{may_drive};
@@ -12,20 +12,21 @@ use rules::refusal::Refusal;
 use rules::{Command, Cycle, Kind, Registers, Unit};
 use unit_dispatch::refusals;
 
-// What a cycle asks of every unit alike: whether it is past its numbers, a memory cycle, a command to the units that are selected, and why
-// this command is refused, if it is.
+// What a cycle asks of every unit alike: whether it is past its numbers, a memory cycle, a command to the units that are selected, and the
+// number that says no to this command, if one does. Any number, here and in a verdict, as callers always could give one: a `Refusal` is one of
+// fourteen, and would ask more of them.
 #[derive(Clone, Copy)]
 pub struct Asked {
     pub outside: bool,
     pub memory: bool,
     pub command: bool,
-    pub refusal: Option<Refusal>,
+    pub number: Option<u8>,
 }
 
-// Why a board refuses, and the number of the unit whose own refusal it is, if it is one's.
+// The number that a board refuses by, and that of the unit whose own refusal it is, if it is one's.
 #[derive(Clone, Copy)]
 pub struct Verdict {
-    pub refusal: Refusal,
+    pub number: u8,
     pub named: Option<u8>,
 }
 
@@ -62,7 +63,7 @@ pub fn ask(c: Cycle) -> Asked
         outside: refusals::out_of_range(c),
         memory: !c.reset & ((8 <= c.status) & (c.status <= 13)),
         command: !c.reset & (c.status == Unit::COMMAND) & !c.dma,
-        refusal: code_refusal(Command::from(c.offset), c.read),
+        number: code_refusal(Command::from(c.offset), c.read).map(u8::from),
     }
 }
 
@@ -75,19 +76,19 @@ pub fn may_drive(mr: u8, c: Cycle) -> bool
     (mr & Unit::MSEN != 0) & (!(mr & Unit::TRNS != 0) | (half & (!(mr & Unit::MST != 0) | mode)))
 }
 
-// A unit's own refusal, if it has one.
-fn own_refusal(r: Registers, select: bool, q: Asked) -> Option<Refusal>
+// The number of a unit's own refusal, if it has one.
+fn own_refusal(r: Registers, select: bool, q: Asked) -> Option<u8>
     ensures refusal { result ≡ own_refusal_of r select q }
-    ensures number { number_given result ≡ own_number_of r select q }
+    ensures number { unwrap_or result 0 ≡ own_number_of r select q }
 {
     if refusals::damaged(r) {
-        return Some(Refusal::Damaged);
+        return Some(Refusal::Damaged.into());
     }
     if q.outside {
-        return Some(Refusal::OutOfRange);
+        return Some(Refusal::OutOfRange.into());
     }
     if q.command & select {
-        return q.refusal;
+        return q.number;
     }
     None
 }
@@ -111,8 +112,8 @@ pub fn unjudged() -> Judged
 pub fn judge(j: Judged, i: u8, r: Registers, select: bool, c: Cycle, q: Asked) -> Judged
     ensures { result ≡ judging j i r select c q }
 {
-    let own = own_refusal(r, select, q).map(|refusal| Verdict {
-        refusal,
+    let own = own_refusal(r, select, q).map(|number| Verdict {
+        number,
         named: Some(i),
     });
     let drives = q.memory & may_drive(r.control.mr, c);
@@ -127,7 +128,7 @@ pub fn judge(j: Judged, i: u8, r: Registers, select: bool, c: Cycle, q: Asked) -
     }
 }
 
-// Why the board refuses the cycle, if it does; `read` is its direction.
+// What the board refuses the cycle by, if it does; `read` is its direction.
 pub fn refuses(j: Judged, read: bool) -> Option<Verdict>
     ensures { given result ≡ cond (refuses j read) (some (refusal_in j)) none }
 {
@@ -136,12 +137,12 @@ pub fn refuses(j: Judged, read: bool) -> Option<Verdict>
     }
     if j.clash {
         return Some(Verdict {
-            refusal: Refusal::TwoDrive,
+            number: Refusal::TwoDrive.into(),
             named: None,
         });
     }
     (read & j.several).then_some(Verdict {
-        refusal: Refusal::SeveralRead,
+        number: Refusal::SeveralRead.into(),
         named: None,
     })
 }

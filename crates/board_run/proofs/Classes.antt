@@ -13,8 +13,6 @@ use Rattle.rules.specs.Bus.{cpu}
 use Rattle.rules.specs.Refusals.{damaged, out_of_range}
 use Rattle.rules.specs.declared.Cycle.{Cycle}
 use Rattle.rules.specs.declared.Registers.{Registers}
-use Rattle.rules.specs.declared.refusal.Refusal.{Refusal as Reason}
-use Rattle.rules.specs.declared.refusal.Refusal.TheVariants.{OutOfRange, Damaged}
 use Rattle.theorems_runs.specs.Cycles.{acknowledge}
 use Rattle.theorems_runs.proofs.Tests.{and_l, and_r}
 use Rattle.board_rules.specs.Board.{Seat}
@@ -81,17 +79,17 @@ module _ (c : Cycle) where
 
   -- a healthy unit's own refusal, where the cycle is in range, is the command's
   module _ (in_range : out_of_range c ≡ false) where
-    abbrev told : (select : Bool) → Optional Reason
-    told select = cond ((asking c).command && select) (asking c).refusal None
+    abbrev told : (select : Bool) → Optional ℕ
+    told select = cond ((asking c).command && select) (asking c).number None
 
     pub own-next : (i : ℕ) (s : Seat) (ss : List Seat) → damaged s.unit.registers ≡ false
         → lowest_from i (map (seat_number c) (s ∷ ss)) ≡ given_or (own_verdict i (told s.select)) (lowest_from (suc i) (map (seat_number c) ss))
     unfolding judging ahead
     own-next i s ss sound =
         sym (ap (λ (k : Judgement). k.own) (judged_turn unjudged i c s ss))
-        ∙ ap (λ (o : Optional Reason). given_or (own_verdict i o) (lowest_from (suc i) (map (seat_number c) ss)))
-        (ap (λ (b : Bool). cond b (Some Damaged) (cond (out_of_range c) (Some OutOfRange) (told s.select))) sound
-        ∙ ap (λ (b : Bool). cond b (Some OutOfRange) (told s.select)) in_range)
+        ∙ ap (λ (o : Optional ℕ). given_or (own_verdict i o) (lowest_from (suc i) (map (seat_number c) ss)))
+        (ap (λ (b : Bool). cond b (Some 2) (cond (out_of_range c) (Some 1) (told s.select))) sound
+        ∙ ap (λ (b : Bool). cond b (Some 1) (told s.select)) in_range)
 
   -- no command: no unit takes one
   pub uncommanded : (asking c).command ≡ false → (s : Seat) → seat_commanded c s ≡ false

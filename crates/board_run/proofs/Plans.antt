@@ -14,7 +14,6 @@ use Rattle.std.specs.Prelude.{Option as Optional}
 use Rattle.rules.specs.Refusals.{out_of_range}
 use Rattle.rules.specs.declared.Cycle.{Cycle}
 use Rattle.rules.specs.declared.Unit.{Unit}
-use Rattle.rules.specs.declared.refusal.Refusal.{Refusal as Reason}
 use Rattle.theorems_runs.specs.Cycles.{memory_cycle}
 use Rattle.theorems_runs.specs.Sequences.{Every}
 use Rattle.board_rules.specs.Board.{Seat, seated, Refusal, some_of, two_of, requests}
@@ -99,8 +98,8 @@ module _ (c : Cycle) (in_range : out_of_range c ≡ false) where
       (two_same (seat_drives c) (λ s. memory_cycle c && seat_drives c s) (λ s. sym (ap (λ (b : Bool). b && seat_drives c s) e)) ss).1
 
   module _ (e : (asking c).command ≡ true) where
-    abbrev why : Optional Reason
-    why = (asking c).refusal
+    abbrev why : Optional ℕ
+    why = (asking c).number
 
     -- the first that is selected gives the command's refusal
     abbrev firsts : (i n left : ℕ) → Option Refusal
@@ -114,7 +113,7 @@ module _ (c : Cycle) (in_range : out_of_range c ≡ false) where
         own-next c in_range i (record { unit = u; select = eqb (left % 2) 1 }) (seated us (left / 2)) h.0
         ∙ rw (e, own_first (suc i) us (left / 2) h.1) (go (eqb (left % 2) 1) why (any_on (length us) (left / 2)))
       where
-        go : (on : Bool) (o : Optional Reason) (more : Bool)
+        go : (on : Bool) (o : Optional ℕ) (more : Bool)
             → given_or (own_verdict i (cond on o None)) (given (cond more (own_verdict (first_on (suc i) (length us) (left / 2)) o) None))
             ≡ given (cond (on || more) (own_verdict (cond on i (first_on (suc i) (length us) (left / 2))) o) None)
         go true None true = refl
@@ -148,7 +147,7 @@ module _ (c : Cycle) (in_range : out_of_range c ≡ false) where
           stood = asks;
         }
       where
-        go : (f : Optional ℕ) (o : Optional Reason) → is_some f ≡ any_on count selects → unwrap_or f count ≡ first_on 0 count selects
+        go : (f : Optional ℕ) (o : Optional ℕ) → is_some f ≡ any_on count selects → unwrap_or f count ≡ first_on 0 count selects
             → given (first_verdict f o) ≡ given (cond (any_on count selects) (own_verdict (first_on 0 count selects) o) None)
         go None o a b = rw (← a)
         go (Some i) o a b = rw (← a, ← b)

@@ -8,7 +8,6 @@ use Rattle.rules.specs.declared.Cycle.{Cycle}
 use Rattle.rules.specs.declared.Descriptor.{Descriptor}
 use Rattle.rules.specs.declared.Registers.{Registers}
 use Rattle.rules.specs.declared.Unit.{Unit}
-use Rattle.rules.specs.declared.refusal.Refusal.{Refusal as Reason}
 use Rattle.theorems_runs.specs.Sequences.{Every}
 use Rattle.board_rules.specs.Board.{Seat, seated, some_of, two_of, requests}
 use Rattle.theorems_boards.specs.Numbers.{seat_drives}
@@ -89,7 +88,7 @@ abbrev pub uncommanded : (clash : Bool) → Judged
 uncommanded clash = record { own = None; drives = false; clash = clash; command = false; several = false; stood = false }
 
 -- a command's refusal, by the first unit that is selected
-abbrev pub first_verdict : (first : Optional ℕ) → Optional Reason → Optional Verdict
+abbrev pub first_verdict : (first : Optional ℕ) → (number : Optional ℕ) → Optional Verdict
 first_verdict None o = None
 first_verdict (Some i) o = own_verdict i o
 

@@ -155,12 +155,12 @@ fn uncommanded(clash: bool) -> Judged
 }
 
 // A command's refusal, if it has one, by the first unit that is selected.
-fn first_verdict(first: Option<u8>, refusal: Option<Refusal>) -> Option<Verdict>
-    ensures { result ≡ first_verdict first refusal }
+fn first_verdict(first: Option<u8>, number: Option<u8>) -> Option<Verdict>
+    ensures { result ≡ first_verdict first number }
 {
-    match (first, refusal) {
-        (Some(_), Some(refusal)) => Some(Verdict {
-            refusal,
+    match (first, number) {
+        (Some(_), Some(number)) => Some(Verdict {
+            number,
             named: first,
         }),
         _ => None,
@@ -188,7 +188,7 @@ fn plan(registers: [Registers; Board::UNITS], count: usize, b: BoardCycle) -> Pr
         return Prepared {
             mask: u32::from(b.selects),
             judged: Judged {
-                own: first_verdict(s.first, q.refusal),
+                own: first_verdict(s.first, q.number),
                 drives: false,
                 clash: false,
                 command: s.first.is_some(),
@@ -240,7 +240,7 @@ fn run_to(records: &[u8], count: usize, cycles: usize, out: &mut [u8])
         let p = plan(registers, count, b);
         let j = p.judged;
         if let Some(v) = board_refusals::refuses(j, c.read) {
-            let a = board_refusals::refused(v.refusal.into(), v.named, asks(registers, count));
+            let a = board_refusals::refused(v.number, v.named, asks(registers, count));
             board_packed::put(out, board_packed::BYTES * n, a);
         } else {
             let mut joint = board_answers::nothing();

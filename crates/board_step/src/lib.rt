@@ -56,7 +56,7 @@ pub fn step_board(b: Board, c: BoardCycle) -> BoardStepped
     let count = usize::from(b.count);
     let j = judge_all(&b.units[..count], c);
     if let Some(v) = board_refusals::refuses(j, c.cycle.read) {
-        let answer = board_refusals::refused(v.refusal.into(), v.named, j.stood);
+        let answer = board_refusals::refused(v.number, v.named, j.stood);
         return BoardStepped { board: b, answer };
     }
     let mut units = b.units;

@@ -41,7 +41,7 @@ returns-then-command c = λ ts in_range healthy.
           (command_known start.b.cycle in_range c.if-command.true us start.b.selects start.count (units-length start.registers ts start.count)
           healthy s.first s.several c.first_verdict.result (some_of requests (seated us start.b.selects))
           found.0 found.1 found.2
-          (c.first_verdict.ensures ∙ ap (λ (q : Asked). first_verdict s.first q.refusal) c.ask-q.ensures) refl k.memory_is);
+          (c.first_verdict.ensures ∙ ap (λ (q : Asked). first_verdict s.first q.number) c.ask-q.ensures) refl k.memory_is);
     }
 
 -- a cycle that is no command and no memory cycle refuses nothing

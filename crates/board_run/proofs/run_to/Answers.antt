@@ -163,7 +163,6 @@ loop-n-preserved c =
           let ends = refused_board l.registers l.tables n b c.requires.0 c.requires.1 j plan.known why.0 in
           let said : w.refused-a.result ≡ refusing (refusal_in j) (any_asks l.registers n) =
           w.refused-a.ensures
-          ∙ ap (λ (k : ℕ). refusing (record { number = k; named = v.named }) w.asks.result) w.into.ensures
           ∙ ap (λ (r : Refusal). refusing r w.asks.result) why.1
           ∙ ap (λ (s : Bool). refusing (refusal_in j) s) w.asks.ensures in
           let made =
