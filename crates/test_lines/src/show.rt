@@ -24,6 +24,20 @@ impl<W: Write> Write for Lossy<W> {
         let _ = self.0.flush();
         Ok(())
     }
+
+    // At once, and not by `write`, which would try each piece twice over.
+    fn write_all(&mut self, bytes: &[u8]) -> io::Result<()> {
+        let _ = streams::write_all(&mut self.0, bytes);
+        Ok(())
+    }
+}
+
+// Whether two runs of as many bytes differ. Eight at a time, up to the first that do: most of what is compared is equal.
+pub fn differ(old: &[u8], new: &[u8]) -> bool {
+    let (old, old_rest) = old.as_chunks::<8>();
+    let (new, new_rest) = new.as_chunks::<8>();
+    old.iter().zip(new).any(|(old, new)| u64::from_ne_bytes(*old) != u64::from_ne_bytes(*new))
+        || old_rest != new_rest
 }
 
 // A line that asks for nothing: an empty one and one that starts with `#` as it is, and `?` for any other.
