@@ -72,7 +72,7 @@ fn obey<W: Write>(out: &mut W, board: &mut Seated, line: &[u8]) -> io::Result<()
     Ok(())
 }
 
-// Before any line the board has one unit. What fails is not told: the program ends as ever.
+// Before any line the board has one unit. What fails is not told: what comes behind it is written, and the program ends as ever.
 fn main(rt: HostRuntime) {
     let mut out = Lossy(rt.stdout());
     let mut board = power_on(1);

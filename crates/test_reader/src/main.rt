@@ -61,7 +61,7 @@ fn whole<W: Write>(out: &mut W, trace: &[u8]) -> io::Result<()> {
     through(out, trace)
 }
 
-// What fails is not told: the program ends as ever.
+// What fails is not told: what comes behind it is written, and the program ends as ever.
 fn main(rt: HostRuntime) {
     let mut trace = [0; streams::LARGE];
     let n = streams::read_full(&mut rt.stdin(), &mut trace).count;

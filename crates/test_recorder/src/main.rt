@@ -84,7 +84,7 @@ fn obey<W: Write>(out: &mut W, given: &mut Given, line: &[u8]) -> io::Result<()>
     Ok(())
 }
 
-// Before any line the buffer has no bytes. What fails is not told: the program ends as ever.
+// Before any line the buffer has no bytes. What fails is not told: what comes behind it is written, and the program ends as ever.
 fn main(rt: HostRuntime) {
     let mut out = Lossy(rt.stdout());
     let mut given = lend(0, 0);

@@ -42,7 +42,7 @@ fn obey<W: Write>(out: &mut W, unit: &mut Unit, line: &[u8]) -> io::Result<()> {
     Ok(())
 }
 
-// What fails is not told: the program ends as ever.
+// What fails is not told: what comes behind it is written, and the program ends as ever.
 fn main(rt: HostRuntime) {
     let mut out = Lossy(rt.stdout());
     let mut unit = Unit::power_on();
