@@ -4,6 +4,8 @@
 
 pub mod parse;
 pub mod show;
+#[cfg(test)]
+mod tests;
 
 use std::io;
 use std::io::Read;
