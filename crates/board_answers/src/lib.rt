@@ -67,7 +67,7 @@ pub fn join(t: Joint, i: u8, x: Answer) -> Joint
     ensures { result ≡ joining t i x }
 {
     Joint {
-        driver: t.driver.or(driving(i, x)),
+        driver: t.driver.or_else(|| driving(i, x)),
         aborted: t.aborted | matches!(x.kind, Kind::Aborted),
         sup: t.sup | x.sup,
         trap: t.trap | x.trap,

@@ -81,12 +81,12 @@ module _ (k n : ℕ) (l part behind : List ℕ) (fewer : n + 1 ≡ k) (split : l
       ∙ judged_turn j i c (record { unit = held_in part; select = eqb (left % 2) 1 }) later
       ∙ ap (λ (ps : List (List ℕ)). judgedAhead j i c (seated (map held_in ps) left)) (sym next)
 
--- no part is left where the chunks end, since they end only where there are no bytes
-none_left : (n bytes : ℕ) → unit_size * n ≤ bytes → (0 < n → bytes ≡ 0) → n ≡ 0
+-- no part is left where the chunks end, since they end only where no whole one is left
+none_left : (n bytes : ℕ) → unit_size * n ≤ bytes → (0 < n → bytes < unit_size) → n ≡ 0
 none_left zero bytes enough none = refl
 none_left (suc n) bytes enough none = absurd (omega (arith, none (omega arith)))
 
-pub judged_all : (n : ℕ) (l : List ℕ) (j : Judged) (i left : ℕ) (c : Cycle) → unit_size * n ≤ length l → (0 < n → length l ≡ 0)
+pub judged_all : (n : ℕ) (l : List ℕ) (j : Judged) (i left : ℕ) (c : Cycle) → unit_size * n ≤ length l → (0 < n → length l < unit_size)
     → judgedAhead j i c [] ≡ judgedAhead j i c (seated (map held_in (parts_in l n)) left)
 unfolding seated parts_in
 judged_all n l j i left c enough none =

@@ -50,7 +50,7 @@ fn judge_all(units: &[u8], count: usize, c: BoardCycle) -> Judged
 {
     let q = board_refusals::ask(c.cycle);
     let mut j = board_refusals::unjudged();
-    for (i, unit) in units.chunks(snapshot::BYTES).enumerate().take(count) {
+    for (i, unit) in units.chunks_exact(snapshot::BYTES).enumerate().take(count) {
         let r = held_registers(unit);
         let select = (c.selects >> i) % 2 == 1;
         j = board_refusals::judge(j, i as u8, r, select, c.cycle, q);

@@ -107,19 +107,22 @@ pub fn unjudged() -> Judged
     }
 }
 
-// One unit more, unit i. The first refusal is the one that is kept.
+// One unit more, unit i. The first refusal is the one that is kept. Where one is, no other is made, and in a cycle that is none of memory nobody
+// is asked whether it drives: sixteen units are judged in each cycle of a full board.
 #[tactic(auto, unfolding(crate::specs::Judged::judging))]
 pub fn judge(j: Judged, i: u8, r: Registers, select: bool, c: Cycle, q: Asked) -> Judged
     ensures { result ≡ judging j i r select c q }
 {
-    let own = own_refusal(r, select, q).map(|number| Verdict {
-        number,
-        named: Some(i),
-    });
-    let drives = q.memory & may_drive(r.control.mr, c);
+    let own = || {
+        own_refusal(r, select, q).map(|number| Verdict {
+            number,
+            named: Some(i),
+        })
+    };
+    let drives = q.memory && may_drive(r.control.mr, c);
     let command = q.command & select;
     Judged {
-        own: j.own.or(own),
+        own: j.own.or_else(own),
         drives: j.drives | drives,
         clash: j.clash | (j.drives & drives),
         command: j.command | command,

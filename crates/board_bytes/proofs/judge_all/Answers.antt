@@ -37,5 +37,5 @@ returns c =
     let rest = l.i-iterator in
     known l.j rest.iter.count start.c.cycle (seats_in start.units.now start.count start.c.selects)
     (judged_all rest.n rest.iter.iter.rest.now l.j rest.iter.count (start.c.selects / 2 ^ rest.iter.count) start.c.cycle l.invariant.2
-    (λ more. (c.in-None.ensures.steps more).0.1.0)
+    (λ more. omega (arith, l.invariant.0, (c.in-None.ensures.steps more).0.1.0))
     ∙ l.invariant.3)
