@@ -25,7 +25,7 @@ impl<W: Write> Write for Lossy<W> {
         Ok(())
     }
 
-    // At once, and not by `write`, which would try each piece twice over.
+    // The piece at once, with no loop of the library's around the inner one's.
     fn write_all(&mut self, bytes: &[u8]) -> io::Result<()> {
         let _ = streams::write_all(&mut self.0, bytes);
         Ok(())
